@@ -1,0 +1,4 @@
+pub mod Faults
+pub mod Moves
+pub mod Rows
+pub mod Verdicts
