@@ -1,13 +1,19 @@
 -- What a validator holds after it was given some of a file.
 use Prim.Native.Nat.{ℕ, _+_, _≤_}
 use mathlib.Core.Path.{_≡_}
+use mathlib.Core.Bool.{Bool, _||_}
 use mathlib.Core.List.{List, _++_}
+use lib.Dec.{ltb}
 use lib.ListN.{length, take}
 use Rattle.framing.specs.Buffer.{Opens}
 use Rattle.framing.specs.Lines.{Cut}
 use Rattle.framing.specs.declared.LineBuffer.{LineBuffer}
 use Rattle.rows.specs.Texts.{Text, written}
 use Rattle.validator.specs.Report.{File, faults-of, report}
+
+-- A line has begun that is not ended.
+abbrev pub begun : LineBuffer → Bool
+begun buffer = ltb 0 (buffer .len) || buffer .cr
 
 -- The bytes `input` were given, and `text` was written of their lines.
 pub record Validated (input text : List ℕ) (buffer : LineBuffer) (number refused : ℕ) : Type 0 where

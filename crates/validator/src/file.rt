@@ -1,16 +1,18 @@
 // A whole file, in blocks of any size.
 ghost use mathlib.Core.Path.{_≡_};
+ghost use mathlib.Core.Bool.{not, _||_};
 ghost use mathlib.Core.List.{List, []};
 ghost use Prim.Native.Nat.{ℕ, _+_, _-_, _<_, _≤_};
 ghost use lib.Dec.{leb};
 ghost use lib.ListN.{length, take, drop};
+ghost use Rattle.std.specs.Results.{isOk};
 ghost use Rattle.std.specs.declared.result.Result.the-variants.{Ok, Err};
 ghost use Rattle.framing.specs.Buffer.{Opens};
 ghost use Rattle.lifts.specs.Faults.{without-lift};
 ghost use Rattle.lifts.specs.declared.fault.Layer.the-variants.{File};
 ghost use Rattle.lifts.specs.declared.fault.Refusal.the-variants.{TextFull};
 ghost use Rattle.rows.specs.Texts.{Extended, WholeRow, row-text, text-to};
-ghost use Rattle.validator.specs.Progress.{Finished, Further, Validated};
+ghost use Rattle.validator.specs.Progress.{Finished, Further, Validated, begun};
 ghost use Rattle.validator.specs.Refusals.{line-refusal};
 ghost use Rattle.validator.specs.Report.{header-fields, line-faults, rows-of};
 use super::line::report_line;
@@ -130,6 +132,7 @@ impl Validator {
 
     // The file has ended: reports its last line if that lacks its CRLF. Where a row may not fit, it is refused and all is as before.
     pub fn finish(&mut self, bytes: &mut [u8], cursor: &mut Cursor) -> Result<(), Fault>
+        ensures verdict { λ r. ⌜ isOk r ≡ (leb 1000001 (now (self .entry) .number) || (not (begun (now (self .entry) .line)) || leb (now (cursor .entry) .end + 64) (length (now (bytes .entry))))) ⌝ }
         ensures cases { λ r. ⌜ elim r [
           | Ok _ ↦ ((input text : List ℕ) → Validated input text (now (self .entry) .line) (now (self .entry) .number) (now (self .entry) .refused) → Finished input text (text-to (now (bytes .entry)) (now (cursor .entry) .end)) (text-to (now (bytes .exit)) (now (cursor .exit) .end)) (now (self .exit) .number) (now (self .exit) .refused))
           | Err f ↦ (f ≡ without-lift TextFull File) × (length (now (bytes .entry)) < now (cursor .entry) .end + 64) × (now (bytes .exit) ≡ now (bytes .entry)) × (now (cursor .exit) .end ≡ now (cursor .entry) .end) × (now (self .exit) .line ≡ now (self .entry) .line) × (now (self .exit) .number ≡ now (self .entry) .number) × (now (self .exit) .refused ≡ now (self .entry) .refused)
