@@ -11,16 +11,19 @@ import sys
 
 WORD = r"[^\s(){}\[\],.;:λ⌜⌝\"`|]+"
 TOP = re.compile(r"^(?:abbrev |unfoldable |pub |record |data )*(" + WORD + r")\s*(?:[({].*)?:(?:\s|$)")
-FIELD = re.compile(r"^\s+(?:pub )?(" + WORD + r") : ")
+INNER = re.compile(r"^\s+(?:pub )?(" + WORD + r") : ")
 TOKEN = re.compile(r"(?<![^\s(){}\[\],.;:λ⌜⌝\"`|])(" + WORD + r")")
 # Names that Rattle makes for goals and calls: an answer file defines them, nobody chose them.
-MADE = re.compile(r"(returns|loop|invariant|decreases|overflow|bounds|in|if|drops|casts)-|.*-requires(-\d+)?$")
+MADE = re.compile(r"(returns|loop|invariant|decreases|overflow|bounds|in|if|drops|casts)[-_]|.*-requires(-\d+)?$")
 # Names whose plain respelling is another name in the same file.
 OTHERWISE = {
     "bit-and": "bit_of_and",
     "bit-or": "bit_of_or",
     "bit-xor": "bit_of_xor",
     "put-mid": "put_mid_written",
+    # These two look as if Rattle had made them.
+    "in-first": "in_first",
+    "in-second": "in_second",
 }
 PAGES = ["README.md", *sorted(glob.glob("docs/*.md"))]
 
@@ -45,18 +48,16 @@ def own_names():
     names = {}
     for path in antt_files():
         answers = path.count("/") > 3
-        in_record = False
         for line in open(path, encoding="utf-8"):
             if not line.strip() or line.startswith(("--", "use ", "pub use ", "mod ", "pub mod ")):
                 continue
             top = TOP.match(line)
-            if not line[0].isspace():
-                in_record = bool(re.match(r"(pub )?record ", line))
-            if top and not (answers and MADE.match(top[1])):
+            if top and (top[1] in OTHERWISE or not (answers and MADE.match(top[1]))):
                 names[top[1]] = new_name(top[1])
-            field = FIELD.match(line)
-            if field and in_record:
-                names[field[1]] = new_name(field[1])
+            # a record's field, or a lemma of a section
+            inner = INNER.match(line)
+            if inner:
+                names[inner[1]] = new_name(inner[1])
     return {old: new for old, new in names.items() if old != new}
 
 

@@ -80,8 +80,8 @@ and_all false = refl
 module _ (change : Bool → Bool → Bool) (keeps : (s : Bool) → change s false ≡ s)
     (ws : List ℕ) (a b at v : ℕ) (is : at ≡ place a b) (enough : suffices ws ≡ true) (la : a < 512) (lb : b < 512)
     (bits : (i : ℕ) → i < 64 → bit_of v i ≡ change (bit_of (get_or ws at 0) i) (eqb i (b % 64))) where
-  pub marked-written : (x y : ℕ) → marked (set ws at v) x y ≡ change (marked ws x y) (eqb x a && eqb y b)
-  marked-written x y = elim (cases_Bool (inside x y)) [
+  pub marked_written : (x y : ℕ) → marked (set ws at v) x y ≡ change (marked ws x y) (eqb x a && eqb y b)
+  marked_written x y = elim (cases_Bool (inside x y)) [
     | inl d ↦
         let l = and_parts (ltb x 512) (ltb y 512) d in
         let lx = ltb-true x 512 l.0 in

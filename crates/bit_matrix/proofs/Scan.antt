@@ -8,8 +8,8 @@ use Rattle.bit_matrix.specs.Matrix.{bit_of}
 
 -- `word` has the bits of p from 64 k on.
 module _ (p : ℕ → Bool) (word k : ℕ) (bits : (i : ℕ) → i < 64 → bit_of word i ≡ p (k * 64 + i)) where
-  pub weight-more : count p ((k + 1) * 64) ≡ count p (k * 64) + count (bit_of word) 64
-  weight-more =
+  pub weight_more : count p ((k + 1) * 64) ≡ count p (k * 64) + count (bit_of word) 64
+  weight_more =
       let up : (k + 1) * 64 ≡ k * 64 + 64 = omega arith in
       ap (count p) up ∙ sum_split (λ x. bit (p x)) (k * 64) 64
       ∙ ap (λ n. count p (k * 64) + n) (sym (count_same (bit_of word) (λ i. p (k * 64 + i)) 64 bits))
@@ -24,11 +24,11 @@ module _ (p : ℕ → Bool) (word k : ℕ) (bits : (i : ℕ) → i < 64 → bit_
           ap p e ∙ sym (bits (q - k * 64) (omega arith)) ∙ off h
     ]
 
-    pub scan-on : SmallestFrom (bit_of word) start None → (q : ℕ) → from ≤ q → q < (k + 1) * 64 + 0 → p q ≡ false
-    scan-on none q l m = passed q l (omega arith) (λ h. none (q - k * 64) (omega arith))
+    pub scan_on : SmallestFrom (bit_of word) start None → (q : ℕ) → from ≤ q → q < (k + 1) * 64 + 0 → p q ≡ false
+    scan_on none q l m = passed q l (omega arith) (λ h. none (q - k * 64) (omega arith))
 
-    pub scan-found : (i : ℕ) → from ≤ k * 64 + start → i < 64 → SmallestFrom (bit_of word) start (Some i) → SmallestFrom p from (Some (k * 64 + i))
-    scan-found i low short first =
+    pub scan_found : (i : ℕ) → from ≤ k * 64 + start → i < 64 → SmallestFrom (bit_of word) start (Some i) → SmallestFrom p from (Some (k * 64 + i))
+    scan_found i low short first =
         let at = first.0 in (
           omega arith,
           sym (bits i short) ∙ first.1,

@@ -1,4 +1,6 @@
 // Conflict graphs as adjacency lists, over cells that the caller lends.
+#![tactic(auto)]
+
 pub mod cell;
 mod chains;
 pub mod graph;

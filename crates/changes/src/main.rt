@@ -1,4 +1,6 @@
 // Checks a change file: reads it from standard input and writes a row for each line that no board could take.
+#![tactic(auto)]
+
 ghost use Rattle.std.specs.Prelude.{◌≡◌, ◌≤◌, length, OnOk};
 
 use lifts::Fault;

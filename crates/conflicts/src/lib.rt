@@ -1,4 +1,6 @@
 // Conflict graphs: what every graph means, its laws and its calls.
+#![tactic(auto)]
+
 pub mod graph;
 pub mod laws;
 

@@ -21,8 +21,8 @@ with_held b = at (eqb b 13) refl
 -- What `feed` does to a buffer: `bs`, `n` and `c` are its fields before, `bs'`, `n'` and `c'` after.
 module _ (bs : List ℕ) (n : ℕ) (c : Bool) (bs' : List ℕ) (n' : ℕ) (c' : Bool) (b : ℕ)
     (keeps : (body : List ℕ) → Keeps bs n body → Keeps bs' n' (body_after c b body)) (cr : c' ≡ eqb b 13) where
-  pub opens-more : (xs : List ℕ) → ends c b ≡ false → Opens bs n c xs → Opens bs' n' c' (xs ++ (b ∷ []))
-  opens-more xs on o =
+  pub opens_more : (xs : List ℕ) → ends c b ≡ false → Opens bs n c xs → Opens bs' n' c' (xs ++ (b ∷ []))
+  opens_more xs on o =
       let line = o.body ++ held c in
       record {
         body = line ++ cond (eqb b 13) [] (b ∷ []);
@@ -35,8 +35,8 @@ module _ (bs : List ℕ) (n : ℕ) (c : Bool) (bs' : List ℕ) (n' : ℕ) (c' : 
         xs_unbroken = let p = unbroken_push xs b in let w = o.xs_unbroken in let l = o.last in grind arith;
       }
 
-  pub ended-more : (xs : List ℕ) → ends c b ≡ true → Opens bs n c xs → Ended bs' n' c' (xs ++ (b ∷ []))
-  ended-more xs hit o =
+  pub ended_more : (xs : List ℕ) → ends c b ≡ true → Opens bs n c xs → Ended bs' n' c' (xs ++ (b ∷ []))
+  ended_more xs hit o =
       let was : c ≡ true = grind arith in
       let lf : b ≡ 10 = grind (arith, nat_tests) in
       let is : xs ≡ o.body ++ (13 ∷ []) = o.split ∙ ap (λ t. o.body ++ held t) was in
@@ -59,7 +59,7 @@ pub plain_more : (bs : List ℕ) (n : ℕ) (c : Bool) (bs' : List ℕ) (n' : ℕ
     → (b ≡ 13 → ⊥) → c ≡ false → c' ≡ false → (xs : List ℕ) → Opens bs n c xs → Opens bs' n' c' (xs ++ (b ∷ []))
 plain_more bs n c bs' n' c' b keeps no-cr was is xs o =
     let other : eqb b 13 ≡ false = grind (arith, nat_tests) in
-    opens-more bs n c bs' n' c' b (λ body k. subst (Keeps bs' n') (plain_after c b body was other) (keeps body k)) (is ∙ sym other) xs (grind arith) o
+    opens_more bs n c bs' n' c' b (λ body k. subst (Keeps bs' n') (plain_after c b body was other) (keeps body k)) (is ∙ sym other) xs (grind arith) o
 
 pub taken_more : (xs bytes : List ℕ) (i : ℕ) → i < length bytes → (xs ++ take i bytes) ++ (get_or bytes i 0 ∷ []) ≡ xs ++ take (i + 1) bytes
 taken_more xs bytes i l = append_assoc xs (take i bytes) (get_or bytes i 0 ∷ []) ∙ ap (λ ys. xs ++ ys) (sym (take_more bytes i 0 l))

@@ -1,4 +1,6 @@
 // Lines out of a stream of bytes, cut at CRLF only.
+#![tactic(auto)]
+
 pub mod laws;
 
 ghost use Rattle.std.specs.Prelude.{◌≡◌, ℕ, ◌-◌, ◌<◌, ◌≤◌, false, ◌||◌, List, [], ◌∷◌, ◌++◌, length, take, drop, replicate, Some, None, ◌==◌, nat_lt};

@@ -1,4 +1,6 @@
 // Asks both conflict graphs and all orders the same questions, through their interfaces alone.
+#![tactic(auto)]
+
 #[cfg(test)]
 mod limits;
 #[cfg(test)]

@@ -1,4 +1,6 @@
 // Tests of the libraries: each is proved, and then run.
+#![tactic(auto)]
+
 #[cfg(test)]
 mod of_framing;
 #[cfg(test)]

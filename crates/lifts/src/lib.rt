@@ -1,4 +1,6 @@
 // Lifts, their states, and how a call is refused.
+#![tactic(auto)]
+
 pub mod fault;
 pub mod lift;
 pub mod state;

@@ -64,7 +64,7 @@ plain_take k bs before i h e =
 
 -- the first field is what stands before the first comma
 first_field : (k : ℕ) (bs : List ℕ) → k ≤ length bs → ((i : ℕ) → i < k → get_or bs i 0 ≡ 44 → ⊥) → (k < length bs → get_or bs k 0 ≡ 44) → fields bs ≡ take k bs ∷ fields_from bs (k + 1)
-first_field k bs h before comma = ⊎_elim inside at-end (cases_lt k (length bs))
+first_field k bs h before comma = ⊎_elim inside at_end (cases_lt k (length bs))
   where
     p : Plain (take k bs)
     p = plain_take k bs before
@@ -75,8 +75,8 @@ first_field k bs h before comma = ⊎_elim inside at-end (cases_lt k (length bs)
         ∙ fields_next (take k bs) (drop (k + 1) bs) p
         ∙ ap (λ t. take k bs ∷ t) (sym (cond-true (leb (k + 1) (length bs)) _ _ (le-leb (k + 1) (length bs) (omega arith))))
 
-    at-end : length bs ≤ k → fields bs ≡ take k bs ∷ fields_from bs (k + 1)
-    at-end l =
+    at_end : length bs ≤ k → fields bs ≡ take k bs ∷ fields_from bs (k + 1)
+    at_end l =
         ap fields (sym (take_all k bs l)) ∙ fields_last (take k bs) p
         ∙ ap (λ t. take k bs ∷ t) (sym (cond-false (leb (k + 1) (length bs)) _ _ (lt-leb (k + 1) (length bs) (omega arith))))
 

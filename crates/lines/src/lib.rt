@@ -1,4 +1,6 @@
 // Change lines: bytes to the change that they mean.
+#![tactic(auto)]
+
 pub mod change;
 pub mod kind;
 pub mod laws;

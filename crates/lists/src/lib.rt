@@ -1,4 +1,6 @@
 // A list over places that the caller lends.
+#![tactic(auto)]
+
 ghost use Rattle.std.specs.Prelude.{◌≡◌, ◌-◌, ◌<◌, ◌≤◌, [], ◌∷◌, length, take, Some, None, Ok, Err, slice_index_or};
 ghost use Rattle.lifts.specs.Faults.{without_lift};
 ghost use Rattle.lifts.specs.declared.fault.Layer.TheVariants.{Board};

@@ -1,4 +1,6 @@
 // Which of two lifts stands before the other.
+#![tactic(auto)]
+
 pub mod order;
 pub mod rules;
 

@@ -1,5 +1,7 @@
 // What an open row keeps its caller from: a second row, and the text's length. This code is accepted as it
 // stands; each edit in borrow-errors/ is refused by the borrow checker.
+#![tactic(auto)]
+
 ghost use Rattle.std.specs.Prelude.{◌≡◌, IfOk};
 ghost use Rattle.row_borrows.specs.TwoRows.{TwoRows};
 ghost use Rattle.rows.specs.Texts.{text_to};

@@ -1,4 +1,6 @@
 // A text that grows row by row in the caller's bytes: fields with commas between them, CRLF at the end.
+#![tactic(auto)]
+
 pub mod field;
 pub mod row;
 

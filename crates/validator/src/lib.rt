@@ -1,4 +1,6 @@
 // Checks a change file: reports the lines that no board could take.
+#![tactic(auto)]
+
 pub mod file;
 pub mod line;
 

@@ -1,6 +1,6 @@
 use Rattle.std.proofs.Common.{◌-◌, length, take, drop, sym, ◌∙◌, subst, arith}
 use Rattle.framing.specs.Buffer.{Ended, Opens}
-use Rattle.framing.proofs.Steps.{ended-more, none_left, opens-more, taken_all, taken_more, taken_rest}
+use Rattle.framing.proofs.Steps.{ended_more, none_left, opens_more, taken_all, taken_more, taken_rest}
 use Rattle.framing.proofs.LineBuffer.take_line.Goals as goal
 
 pub returns-then-at-block : goal.returns-then-at-block
@@ -17,7 +17,7 @@ returns-then-feed c =
       place = (omega arith, omega arith);
       line = λ xs o. subst (Ended l.bytes l.len l.cr)
           (taken_more xs (take (length b - c.args.at) (drop c.args.at b)) c.loop-i.i c.loop-i-test.true ∙ taken_rest xs b c.args.at c.loop-i.i)
-          (ended-more _ _ _ _ _ _ _ e.keeps e.cr _ (sym e.ends ∙ c.if-feed.true) (c.loop-i.invariant xs o));
+          (ended_more _ _ _ _ _ _ _ e.keeps e.cr _ (sym e.ends ∙ c.if-feed.true) (c.loop-i.invariant xs o));
     }
 
 pub loop-i-preserved : goal.loop-i-preserved
@@ -25,9 +25,9 @@ loop-i-preserved c = λ xs o.
     let b = c.args.block.now in
     let e = c.feed.ensures in
     let l = c.feed.new.self in
-    c.take-plain-i.ensures.line xs (subst (Opens l.bytes l.len l.cr)
+    c.take_plain-i.ensures.line xs (subst (Opens l.bytes l.len l.cr)
     (taken_more xs (take (length b - c.args.at) (drop c.args.at b)) c.loop-i.i c.loop-i-test.true)
-    (opens-more _ _ _ _ _ _ _ e.keeps e.cr _ (sym e.ends ∙ c.if-feed.false) (c.loop-i.invariant xs o)))
+    (opens_more _ _ _ _ _ _ _ e.keeps e.cr _ (sym e.ends ∙ c.if-feed.false) (c.loop-i.invariant xs o)))
 
 pub returns : goal.returns
 returns c =

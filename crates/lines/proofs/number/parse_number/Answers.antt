@@ -11,4 +11,4 @@ returns-in-49-to-57 c =
     let field = c.args.field.now in
     let e = take_rest field 1 in
     let short : length field ≤ 5 = omega (arith, ap length e, length-drop 1 field) in
-    c.digits-after.ensures ∙ ap (reads_on _) e ∙ search (rules, numeral_digits)
+    c.digits_after.ensures ∙ ap (reads_on _) e ∙ search (rules, numeral_digits)

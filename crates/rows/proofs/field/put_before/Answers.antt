@@ -14,7 +14,7 @@ returns c =
     record {
       begins = s;
       bytes =
-          ap (λ ys. drop b (put_mid b k xs ys)) c.copy-from-slice.ensures.after
+          ap (λ ys. drop b (put_mid b k xs ys)) c.copy_from_slice.ensures.after
           ∙ ap (drop b) (put_mid_written b k xs w n)
           ∙ drop_written xs b w (omega arith)
           ∙ ap (λ i. w ++ drop i xs) s;

@@ -12,6 +12,6 @@ returns c =
     let n : length p ≡ k = omega arith in
     record {
       fits = omega arith;
-      bytes = ap (put_mid e k xs) c.copy-from-slice.ensures.after ∙ put_mid_written e k xs p n;
+      bytes = ap (put_mid e k xs) c.copy_from_slice.ensures.after ∙ put_mid_written e k xs p n;
       end = refl;
     }

@@ -19,8 +19,8 @@ returns-in-Err c =
     let e = one_refused _ _ c.in-Err.ensures in
     let n = c.args.number in
     let before = text_to c.args.bytes.now c.args.cursor.now.end in
-    let after = text_to c.write-fault.new.bytes c.write-fault.new.cursor.end in
+    let after = text_to c.write_fault.new.bytes c.write_fault.new.cursor.end in
     record {
       count = (sym (ap (λ o. length (line_faults n o)) e), omega arith);
-      text = subst (λ o. Extended before (rows_of (line_faults n o)) after) (sym e) (row_written before after n c.in-Err.fault _ (omega arith) c.write-fault.ensures.short c.write-fault.ensures.row);
+      text = subst (λ o. Extended before (rows_of (line_faults n o)) after) (sym e) (row_written before after n c.in-Err.fault _ (omega arith) c.write_fault.ensures.short c.write_fault.ensures.row);
     }

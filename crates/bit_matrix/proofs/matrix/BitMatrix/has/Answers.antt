@@ -6,7 +6,7 @@ use Rattle.bit_matrix.proofs.matrix.BitMatrix.has.Goals as goal
 pub returns-then-suffices : goal.returns-then-suffices
 returns-then-suffices c =
     let words = c.args.self.now.words.now in
-    c.has-bit.ensures
+    c.has_bit.ensures
     ∙ ap (λ i. bit_of (get_or words i 0) (c.args.b % 64)) c.place.ensures.0
     ∙ sym (marked_in words c.args.a c.args.b (sym c.if-suffices.ensures) c.requires.0 c.requires.1)
 

@@ -3,8 +3,8 @@ use Rattle.conflicts.proofs.Edges.{edges_none}
 use Rattle.bit_matrix.specs.Matrix.{marked}
 use Rattle.bit_matrix.proofs.matrix.BitMatrix.over.Goals as goal
 
-pub invariant-of-result : goal.invariant-of-result
-invariant-of-result c =
+pub invariant_of-result : goal.invariant_of-result
+invariant_of-result c =
     let none = c.requires in
     let zero = edges_none (marked c.args.words.now) 512 none in (
       (λ x y. none x y ∙ sym (none y x)),

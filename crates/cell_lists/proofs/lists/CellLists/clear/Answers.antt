@@ -21,6 +21,6 @@ pub returns : goal.returns
 returns c =
     let l = c.loop-b.self in
     record {
-      after = elsewhere_all (standing c.args.self.now) (standing l) c.args.a c.loop-b.invariant.0 l.symmetric c.in-default.ensures;
+      after = elsewhere_all (standing c.args.self.now) (standing l) c.args.a c.loop-b.invariant.0 l.symmetric c.in_default.ensures;
       frame = c.loop-b.invariant.1;
     }

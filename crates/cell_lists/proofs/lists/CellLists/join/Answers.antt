@@ -10,8 +10,8 @@ use Rattle.cell_lists.proofs.lists.CellLists.join.Goals as goal
 joinable : (l : CellLists) (a b : ℕ) → (a < 512) × (b < 512) × (a ≡ b → ⊥) → standing l a b ≡ false → l.pairs < l.capacity → Joinable l a b
 joinable l a b apart missing spare = record { first = apart.0; second = apart.1; other = apart.2; missing = missing; spare = spare }
 
-pub move-top-requires : goal.move-top-requires
-move-top-requires c =
+pub move_top-requires : goal.move_top-requires
+move_top-requires c =
     let l = c.args.self.now in
     let a = c.args.a in
     let j = joinable l a c.args.b c.requires.apart c.requires.missing c.requires.spare in
@@ -20,37 +20,37 @@ move-top-requires c =
     let small = count_small (memory l) a l.degrees (omega arith) in
     record { apart = (lit< tt, omega arith, λ e. omega arith); some = omega arith; inside = omega (arith, l.long); fits = omega arith }
 
-pub move-top-requires-2 : goal.move-top-requires-2
-move-top-requires-2 c =
+pub move_top-requires-2 : goal.move_top-requires-2
+move_top-requires-2 c =
     let l = c.args.self.now in
     let j = joinable l c.args.a c.args.b c.requires.apart c.requires.missing c.requires.spare in
-    let u = view c.move-top.new.cells c.move-top.new.heads c.move-top.new.counts in
-    let s = join_second l u c.args.a c.args.b j c.move-top.ensures in
+    let u = view c.move_top.new.cells c.move_top.new.heads c.move_top.new.counts in
+    let s = join_second l u c.args.a c.args.b j c.move_top.ensures in
     let top = s.top in
     let small = s.small in
     record { apart = (lit< tt, omega arith, λ e. omega arith); some = s.some; inside = omega (arith, l.long); fits = omega arith }
 
-pub invariant-of-self : goal.invariant-of-self
-invariant-of-self c =
+pub invariant_of-self : goal.invariant_of-self
+invariant_of-self c =
     let l = c.args.self.now in
     let j = joinable l c.args.a c.args.b c.requires.apart c.requires.missing c.requires.spare in
-    let u = view c.move-top.new.cells c.move-top.new.heads c.move-top.new.counts in
-    let w = view c.move-top-2.new.cells c.move-top-2.new.heads c.move-top-2.new.counts in
-    fields_of w (length c.move-top-2.new.cells) (l.pairs + 1) l.capacity (omega (arith, l.long)) l.most
-    (join_done l u w c.args.a c.args.b j c.move-top.ensures c.move-top-2.ensures).whole
+    let u = view c.move_top.new.cells c.move_top.new.heads c.move_top.new.counts in
+    let w = view c.move_top-2.new.cells c.move_top-2.new.heads c.move_top-2.new.counts in
+    fields_of w (length c.move_top-2.new.cells) (l.pairs + 1) l.capacity (omega (arith, l.long)) l.most
+    (join_done l u w c.args.a c.args.b j c.move_top.ensures c.move_top-2.ensures).whole
 
 pub returns : goal.returns
 returns c =
     let l = c.args.self.now in
     let j = joinable l c.args.a c.args.b c.requires.apart c.requires.missing c.requires.spare in
-    let u = view c.move-top.new.cells c.move-top.new.heads c.move-top.new.counts in
-    let w = view c.move-top-2.new.cells c.move-top-2.new.heads c.move-top-2.new.counts in
+    let u = view c.move_top.new.cells c.move_top.new.heads c.move_top.new.counts in
+    let w = view c.move_top-2.new.cells c.move_top-2.new.heads c.move_top-2.new.counts in
     record {
-      after = (join_done l u w c.args.a c.args.b j c.move-top.ensures c.move-top-2.ensures).after;
+      after = (join_done l u w c.args.a c.args.b j c.move_top.ensures c.move_top-2.ensures).after;
       frame = record {
         same_cells = refl;
         same_capacity = refl;
-        beyond = join_beyond l u c.move-top-2.new.cells c.move-top-2.new.heads c.move-top-2.new.counts c.args.a c.args.b j
-            c.move-top.ensures c.move-top-2.ensures (omega arith);
+        beyond = join_beyond l u c.move_top-2.new.cells c.move_top-2.new.heads c.move_top-2.new.counts c.args.a c.args.b j
+            c.move_top.ensures c.move_top-2.ensures (omega arith);
       };
     }

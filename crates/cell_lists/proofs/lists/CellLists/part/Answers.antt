@@ -33,16 +33,16 @@ cut-requires-2 c =
     let free = s.free in
     record { below = omega arith; some = s.some; inside = (omega (arith, l.long), omega (arith, l.long)); fits = omega (arith, l.free, l.most) }
 
-pub overflow-sub-pairs : goal.overflow-sub-pairs
-overflow-sub-pairs c =
+pub overflow_sub-pairs : goal.overflow_sub-pairs
+overflow_sub-pairs c =
     let l = c.args.self.now in
     let p = partable l c.args.a c.args.b c.in-Some.first c.in-Some-find.second (omega arith) (omega arith) c.in-Some.ensures c.in-Some-find.ensures in
     let u = view c.cut.new.cells c.cut.new.heads c.cut.new.counts in
     let w = view c.cut-2.new.cells c.cut-2.new.heads c.cut-2.new.counts in
     (part_done l u w c.args.a c.args.b c.in-Some.first c.in-Some-find.second p c.cut.ensures c.cut-2.ensures).some_pair
 
-pub invariant-of-self : goal.invariant-of-self
-invariant-of-self c =
+pub invariant_of-self : goal.invariant_of-self
+invariant_of-self c =
     let l = c.args.self.now in
     let p = partable l c.args.a c.args.b c.in-Some.first c.in-Some-find.second (omega arith) (omega arith) c.in-Some.ensures c.in-Some-find.ensures in
     let u = view c.cut.new.cells c.cut.new.heads c.cut.new.counts in

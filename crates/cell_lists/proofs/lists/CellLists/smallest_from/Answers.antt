@@ -28,11 +28,11 @@ loop-place-preserved c =
     let v = memory c.args.self.now in
     let a = c.args.a in
     let j = c.loop-place.-place in
-    let r = c.best-of-best.result in
+    let r = c.best_of-best.result in
     let here = c.loop-place.invariant.0 in
     let most = c.loop-place.invariant.1 in
     let names = ap v.neighbour here in
-    let step = better c.args.from c.loop-place.best (v.neighbour c.loop-place.cell) r c.best-of-best.ensures in
+    let step = better c.args.from c.loop-place.best (v.neighbour c.loop-place.cell) r c.best_of-best.ensures in
     let down = step.old in (
       ap v.next here ∙ sym (along_next v.next (v.head a) j),
       omega arith,

@@ -14,7 +14,7 @@ loop-b-preserved g c =
     let b = c.in-Some.b in
     let pairs = k.adjacent c.loop-b.self in
     let left = k.adjacent c.remove.new.self in
-    let next = rw c.in-Some.is at c.in-ok-b.ensures in
+    let next = rw c.in-Some.is at c.in_ok-b.ensures in
     let on = next.1.1 in
     let small : a < 512 = number_taken Book a next.0 in
     let below = next.2 in
@@ -33,7 +33,7 @@ loop-b-preserved g c =
 pub returns : goal.returns
 returns g c =
     let k = g.Self.ConflictGraph in
-    let none = rw c.in-default.is at c.in-ok-b.ensures in
+    let none = rw c.in_default.is at c.in_ok-b.ensures in
     let small : c.args.a < 512 = number_taken Book c.args.a none.0 in
     record {
       verdict = grind (arith, nat_tests);

@@ -6,5 +6,5 @@ pub returns : goal.returns
 returns c =
     record {
       line = search rules;
-      cases = fields_first c.args.self.now.line.now c.args.self.now.place c.field-end-end.result (search rules) (search rules) c.field-end-end.ensures.before c.field-end-end.ensures.comma;
+      cases = fields_first c.args.self.now.line.now c.args.self.now.place c.field_end-end.result (search rules) (search rules) c.field_end-end.ensures.before c.field_end-end.ensures.comma;
     }

@@ -8,13 +8,13 @@ rest at xs ys l e =
     let n : length (drop at xs) ≤ 19 - at = simp length-drop (omega arith) in
     take_all (19 - at) (drop at xs) n ∙ e
 
-pub returns-in-err-append : goal.returns-in-err-append
-returns-in-err-append c =
-    let e = rest c.put-piece-at.result c.put-piece-at.new.piece _ (search rules) c.put-piece-at.ensures.bytes in
-    let h = rw e at c.in-err-append.ensures.text in
+pub returns-in_err-append : goal.returns-in_err-append
+returns-in_err-append c =
+    let e = rest c.put_piece-at.result c.put_piece-at.new.piece _ (search rules) c.put_piece-at.ensures.bytes in
+    let h = rw e at c.in_err-append.ensures.text in
     record { names = search rules; text = search rules; row = search rules }
 
 pub returns : goal.returns
 returns c =
-    let e = rest c.put-piece-at.result c.put-piece-at.new.piece _ (search rules) c.put-piece-at.ensures.bytes in
-    record { names = search rules; text = rw e at c.in-ok-append.ensures.text; row = search rules }
+    let e = rest c.put_piece-at.result c.put_piece-at.new.piece _ (search rules) c.put_piece-at.ensures.bytes in
+    record { names = search rules; text = rw e at c.in_ok-append.ensures.text; row = search rules }

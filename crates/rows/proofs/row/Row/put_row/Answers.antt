@@ -34,25 +34,25 @@ loop-field-init c = (search rules, search rules, begun _ _ _ c.requires.0)
 
 pub loop-field-preserved : goal.loop-field-preserved
 loop-field-preserved c =
-    let e = c.in-ok-put.ensures in
+    let e = c.in_ok-put.ensures in
     (search rules, search rules, again _ _ _ _ _ _ _ _ c.loop-field-test.true c.loop-field.invariant.2 e.text e.row.1)
 
-pub returns-in-err-put : goal.returns-in-err-put
-returns-in-err-put c =
-    let h = c.in-err-put.ensures.text in
+pub returns-in_err-put : goal.returns-in_err-put
+returns-in_err-put c =
+    let h = c.in_err-put.ensures.text in
     let l = next _ _ _ _ _ _ c.loop-field-test.true c.loop-field.invariant.2 in
     let w = unfinished _ _ _ _ _ _ c.put.new.self.start _ l h.0 h.1 (search rules) in
     record { names = search rules; text = search rules }
 
-pub returns-in-err-finish : goal.returns-in-err-finish
-returns-in-err-finish c =
-    let h = c.in-err-finish.ensures.text in
+pub returns-in_err-finish : goal.returns-in_err-finish
+returns-in_err-finish c =
+    let h = c.in_err-finish.ensures.text in
     let l = last _ _ _ _ _ _ c.loop-field-test.false c.loop-field.invariant.2 in
     let w = unfinished _ _ _ _ _ _ c.finish.new.self.start _ l h.0 h.1 (search rules) in
     record { names = search rules; text = search rules }
 
 pub returns : goal.returns
 returns c =
-    let e = c.in-ok-finish.ensures in
+    let e = c.in_ok-finish.ensures in
     let l = last _ _ _ _ _ _ c.loop-field-test.false c.loop-field.invariant.2 in
     record { names = search rules; text = finished _ _ _ _ _ l e.text e.row.0 }

@@ -35,7 +35,7 @@ loop-place-preserved c =
       (λ e. absurd (omega arith)),
       λ input text v.
           let f = c.loop-place.invariant.3 input text v in
-          let room = leb-true (c.loop-place.cursor.end + 64) (length c.loop-place.bytes) (sym c.if-has-room.ensures) in
+          let room = leb-true (c.loop-place.cursor.end + 64) (length c.loop-place.bytes) (sym c.if-has_room.ensures) in
           let h : c.args.cursor.now.end ≤ length c.args.bytes.now = omega (arith, f.end, room, c.loop-place.auto.bytes) in
           subst (λ t. Further input text t before after is.line is.number is.refused) (part_more block at place next (omega arith) (omega arith))
           (further_twice input text _ _ before middle after was.line is.line was.number was.refused is.number is.refused h f c.step-place.ensures.law),

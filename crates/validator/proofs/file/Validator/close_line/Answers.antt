@@ -10,7 +10,7 @@ returns c =
     let line = c.get.ensures.bytes in
     record {
       numbers = search rules;
-      counts = ap (λ k. c.args.self.now.refused + k) (c.report-line.ensures.count.0 ∙ ap (λ l. length (line_faults n (line_refusal n l))) line);
+      counts = ap (λ k. c.args.self.now.refused + k) (c.report_line.ensures.count.0 ∙ ap (λ l. length (line_faults n (line_refusal n l))) line);
       clears = search rules;
-      text = subst (λ l. Extended (text_to c.args.bytes.now c.args.cursor.now.end) (rows_of (line_faults n (line_refusal n l))) (text_to c.report-line.new.bytes c.report-line.new.cursor.end)) line c.report-line.ensures.text;
+      text = subst (λ l. Extended (text_to c.args.bytes.now c.args.cursor.now.end) (rows_of (line_faults n (line_refusal n l))) (text_to c.report_line.new.bytes c.report_line.new.cursor.end)) line c.report_line.ensures.text;
     }

@@ -10,20 +10,20 @@ pub returns-in-Some : goal.returns-in-Some
 returns-in-Some c =
     let taken = take (c.in-Some.next - c.args.at) (drop c.args.at c.args.block.now) in
     let before = text_to c.args.bytes.now c.args.cursor.now.end in
-    let after = text_to c.close-line.new.bytes c.close-line.new.cursor.end in
-    let closed = c.close-line.ensures in
+    let after = text_to c.close_line.new.bytes c.close_line.new.cursor.end in
+    let closed = c.close_line.ensures in
     record {
       place = c.in-Some.ensures.place;
       law = λ input text v.
-          subst (λ n. Further input text taken before after c.close-line.new.self.line n c.close-line.new.self.refused) (sym closed.numbers)
-          (line_closed input text taken before after _ c.take-line.new.self c.close-line.new.self.line _ _ _ (search rules) v (c.in-Some.ensures.line v.rest v.opens) closed.counts closed.clears closed.text);
+          subst (λ n. Further input text taken before after c.close_line.new.self.line n c.close_line.new.self.refused) (sym closed.numbers)
+          (line_closed input text taken before after _ c.take_line.new.self c.close_line.new.self.line _ _ _ (search rules) v (c.in-Some.ensures.line v.rest v.opens) closed.counts closed.clears closed.text);
     }
 
 pub returns-in-None : goal.returns-in-None
 returns-in-None c =
     let block = c.args.block.now in
     let at = c.args.at in
-    let line = c.take-line.new.self in
+    let line = c.take_line.new.self in
     record {
       place = search rules;
       law = λ input text v.
