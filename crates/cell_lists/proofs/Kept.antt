@@ -21,60 +21,39 @@ whole_of l = record {
   counted = l.counted;
 }
 
--- the ghost fields, in their order
+-- the ghost fields by their names, in their order
 abbrev pub Fields : View → ℕ → ℕ → ℕ → Type 0
-Fields v cells pairs capacity =
-    (2 * capacity ≤ cells)
-    × ((capacity ≤ 130816)
-    × (Ranged v (2 * capacity)
-    × (Disjoint v
-    × (Inside v
-    × (Single v
-    × (Symmetric v
-    × (Loopless v
-    × (Bounded v
-    × (Degrees v
-    × ((v.count 512 + 2 * pairs ≡ 2 * capacity)
-    × ((pairs ≡ edge_count (holds v))
-    × ((edge_count (holds v) ≤ capacity) × Unit {0}))))))))))))
+Fields v cells pairs capacity = record {
+  long : 2 * capacity ≤ cells;
+  most : capacity ≤ 130816;
+  ranged : Ranged v (2 * capacity);
+  disjoint : Disjoint v;
+  inside : Inside v;
+  single : Single v;
+  symmetric : Symmetric v;
+  loopless : Loopless v;
+  bounded : Bounded v;
+  degrees : Degrees v;
+  free : v.count 512 + 2 * pairs ≡ 2 * capacity;
+  counted : pairs ≡ edge_count (holds v);
+  fitting : edge_count (holds v) ≤ capacity;
+}
 
 pub fields_of : (v : View) (cells pairs capacity : ℕ) → 2 * capacity ≤ cells → capacity ≤ 130816 → Whole v (2 * capacity) pairs → Fields v cells pairs capacity
 fields_of v cells pairs capacity long most wh =
     let fr = wh.free in
-    let co = wh.counted in (
-      long,
-      (
-        most,
-        (
-          wh.ranged,
-          (
-            distinct_to v wh.distinct,
-            (
-              wh.inside,
-              (
-                single_to v wh.single,
-                (
-                  wh.symmetric,
-                  (
-                    wh.loopless,
-                    (
-                      holds_bounded v,
-                      (
-                        wh.degrees,
-                        (
-                          fr,
-                          (
-                            co,
-                            (omega arith, tt),
-                          ),
-                        ),
-                      ),
-                    ),
-                  ),
-                ),
-              ),
-            ),
-          ),
-        ),
-      ),
-    )
+    let co = wh.counted in record {
+      long = long;
+      most = most;
+      ranged = wh.ranged;
+      disjoint = distinct_to v wh.distinct;
+      inside = wh.inside;
+      single = single_to v wh.single;
+      symmetric = wh.symmetric;
+      loopless = wh.loopless;
+      bounded = holds_bounded v;
+      degrees = wh.degrees;
+      free = fr;
+      counted = co;
+      fitting = omega arith;
+    }

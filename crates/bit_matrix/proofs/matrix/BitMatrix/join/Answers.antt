@@ -18,16 +18,12 @@ invariant_of-self c =
     let more = edges_more old new a b 512 free.apart.first free.apart.second d s.symmetric free.off after in
     let counted = s.counted in
     let room = free.room in
-    let kept = capacity_kept s.words.now c.set_pair.new.words c.set_pair.ensures.frame in (
-      joined_symmetric old new a b s.symmetric after,
-      (
-        joined_loopless old new a b s.loopless d after,
-        (
-          omega arith,
-          (omega arith, tt),
-        ),
-      ),
-    )
+    let kept = capacity_kept s.words.now c.set_pair.new.words c.set_pair.ensures.frame in record {
+      symmetric = joined_symmetric old new a b s.symmetric after;
+      loopless = joined_loopless old new a b s.loopless d after;
+      counted = omega arith;
+      fitting = omega arith;
+    }
 
 pub returns : goal.returns
 returns c = record {

@@ -34,16 +34,12 @@ invariant_of-self c =
     let fewer = edges_fewer old new a b 512 stands.apart.first stands.apart.second s.symmetric s.loopless stands.on after in
     let counted = s.counted in
     let fitting = s.fitting in
-    let kept = capacity_kept s.words.now c.clear_pair.new.words c.clear_pair.ensures.frame in (
-      parted_symmetric old new a b s.symmetric after,
-      (
-        parted_loopless old new a b s.loopless after,
-        (
-          omega arith,
-          (omega arith, tt),
-        ),
-      ),
-    )
+    let kept = capacity_kept s.words.now c.clear_pair.new.words c.clear_pair.ensures.frame in record {
+      symmetric = parted_symmetric old new a b s.symmetric after;
+      loopless = parted_loopless old new a b s.loopless after;
+      counted = omega arith;
+      fitting = omega arith;
+    }
 
 pub returns : goal.returns
 returns c = record {

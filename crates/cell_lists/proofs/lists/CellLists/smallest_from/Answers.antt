@@ -27,7 +27,7 @@ pub loop-place-preserved : goal.loop-place-preserved
 loop-place-preserved c =
     let v = memory c.args.self.now in
     let a = c.args.a in
-    let j = c.loop-place.-place in
+    let j = c.loop-place._place in
     let r = c.best_of-best.result in
     let here = c.loop-place.invariant.0 in
     let most = c.loop-place.invariant.1 in

@@ -10,7 +10,7 @@ pub loop-step-preserved : goal.loop-step-preserved
 loop-step-preserved c =
     let v = memory c.args.self.now in
     let here = c.loop-step.invariant.0 in (
-      ap v.next here ∙ sym (along_next v.next (v.head c.args.a) c.loop-step.-step),
+      ap v.next here ∙ sym (along_next v.next (v.head c.args.a) c.loop-step._step),
       below_more _ _ c.loop-step.invariant.1 (λ e. c.if-neighbour-b.false (ap v.neighbour here ∙ e)),
     )
 
@@ -18,4 +18,4 @@ pub returns-then-neighbour-b : goal.returns-then-neighbour-b
 returns-then-neighbour-b c =
     let v = memory c.args.self.now in
     let here = c.loop-step.invariant.0 in
-    record { k = c.loop-step.-step; within = omega arith; here = sym here; names = sym (ap v.neighbour here) ∙ c.if-neighbour-b.true }
+    record { k = c.loop-step._step; within = omega arith; here = sym here; names = sym (ap v.neighbour here) ∙ c.if-neighbour-b.true }

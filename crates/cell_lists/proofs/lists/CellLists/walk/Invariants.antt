@@ -5,5 +5,5 @@ use Rattle.cell_lists.proofs.lists.CellLists.walk.Given as goal
 
 abbrev pub invariant-loop-step : goal.invariant-loop-step
 invariant-loop-step l =
-    (l.cell ≡ place (memory l.self) l.a l.-step)
-    × ((k : ℕ) → k < l.-step → named (memory l.self) l.a k ≡ l.b → ⊥)
+    (l.cell ≡ place (memory l.self) l.a l._step)
+    × ((k : ℕ) → k < l._step → named (memory l.self) l.a k ≡ l.b → ⊥)
