@@ -81,5 +81,5 @@ fn byte_by_byte(rt: HostRuntime) {
     assert!(rt; !buffer.feed(b'\n'));
     assert!(rt; !buffer.feed(b'\r'));
     assert!(rt; buffer.feed(b'\n'));
-    assert_eq!(rt; buffer.get(), b"\n");
+    assert_eq!(rt; buffer.get(), b"\n".as_slice());
 }

@@ -127,13 +127,13 @@ fn rows_without_room(rt: HostRuntime) -> Result<(), Fail> {
     assert_eq!(rt; validator.advance(b"x\r\ny", 0, &mut out, &mut cursor), 0);
     cursor.clear();
     assert_eq!(rt; validator.advance(b"x\r\ny", 0, &mut out, &mut cursor), 4);
-    assert_eq!(rt; cursor.text(&out), b"1,,refused 14\r\n");
+    assert_eq!(rt; cursor.text(&out), b"1,,refused 14\r\n".as_slice());
     assert_eq!(rt;
         validator.finish(&mut [], &mut cursor),
         Err(Fault::without_lift(Refusal::TextFull, Layer::File))
     );
     cursor.clear();
     validator.finish(&mut out, &mut cursor)?;
-    assert_eq!(rt; cursor.text(&out), b"2,,refused 14\r\n");
+    assert_eq!(rt; cursor.text(&out), b"2,,refused 14\r\n".as_slice());
     Ok(())
 }
