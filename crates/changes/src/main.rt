@@ -6,6 +6,7 @@ ghost use Rattle.std.specs.Prelude.{◌≡◌, ◌≤◌, length, OnOk};
 use lifts::Fault;
 use rows::Cursor;
 use std::io::{Read, Stdin, Stdout, Write};
+use std::process::ExitCode;
 use std::{env, io};
 use validator::{Summary, Validator, has_room, write_header};
 
@@ -84,16 +85,17 @@ fn run(rt: &HostRuntime) -> io::Result<()> {
     eprintln!(rt; "lines read: {read}, well formed: {well_formed}, refused: {refused}")
 }
 
-fn main(rt: HostRuntime) -> io::Result<()> {
+// A run that fails has said why: a returned error would be printed once more.
+fn main(rt: HostRuntime) -> io::Result<ExitCode> {
     if env::args(&rt)?.len() > 1 {
         eprintln!(rt; "usage: changes < FILE")?;
-        return Err(io::Error::from(io::ErrorKind::InvalidInput));
+        return Ok(ExitCode::FAILURE);
     }
     match run(&rt) {
-        Ok(()) => Ok(()),
+        Ok(()) => Ok(ExitCode::SUCCESS),
         Err(e) => {
             eprintln!(rt; "changes: {e}")?;
-            Err(e)
+            Ok(ExitCode::FAILURE)
         }
     }
 }

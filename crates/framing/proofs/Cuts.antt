@@ -1,6 +1,6 @@
 -- How an input is cut.
 use Rattle.std.proofs.Common.{◌≡◌, ℕ, Bool, true, false, not, ◌&&◌, eqb, List, [], ◌∷◌, ◌++◌, sym, refl, ap, ◌∙◌, subst, arith}
-use Rattle.std.specs.List.{flat_map, AllByRecursion as All}
+use Rattle.std.specs.List.{flat_map, AllByRecursion}
 use Rattle.std.proofs.lemmas.List.{append_assoc, append-nil, flat_map_more}
 use Rattle.std.proofs.lemmas.Bool.Decides.{nat_tests}
 use Rattle.framing.specs.Buffer.{ends_in_cr}
@@ -68,7 +68,7 @@ first_line l ls r = append_assoc (l ++ line_end) (flat_map ended ls) r ∙ appen
 abbrev Unbroken : List ℕ → Type 0
 Unbroken line = unbroken line ≡ true
 
-same_lines : (ls ms : List (List ℕ)) (r s : List ℕ) → All Unbroken ls → All Unbroken ms → Unbroken r → Unbroken s → flat_map ended ls ++ r ≡ flat_map ended ms ++ s → (ls ≡ ms) × (r ≡ s)
+same_lines : (ls ms : List (List ℕ)) (r s : List ℕ) → AllByRecursion Unbroken ls → AllByRecursion Unbroken ms → Unbroken r → Unbroken s → flat_map ended ls ++ r ≡ flat_map ended ms ++ s → (ls ≡ ms) × (r ≡ s)
 same_lines [] [] r s a b u v e = (refl, e)
 same_lines [] (m ∷ ms) r s a b u v e = absurd (none_inside r m (flat_map ended ms ++ s) u (e ∙ first_line m ms s))
 same_lines (l ∷ ls) [] r s a b u v e = absurd (none_inside s l (flat_map ended ls ++ r) v (sym e ∙ first_line l ls r))
@@ -80,7 +80,7 @@ same_lines (l ∷ ls) (m ∷ ms) r s a b u v e =
 pub one_cut : OneCut
 one_cut input ls ms r s c d = same_lines ls ms r s c.lines_unbroken d.lines_unbroken c.rest_unbroken d.rest_unbroken (sym c.whole ∙ d.whole)
 
-unbroken_lines : (ls : List (List ℕ)) (body : List ℕ) → All Unbroken ls → Unbroken body → All Unbroken (ls ++ (body ∷ []))
+unbroken_lines : (ls : List (List ℕ)) (body : List ℕ) → AllByRecursion Unbroken ls → Unbroken body → AllByRecursion Unbroken (ls ++ (body ∷ []))
 unbroken_lines [] body a u = (u, tt)
 unbroken_lines (l ∷ ls) body a u = (a.0, unbroken_lines ls body a.1 u)
 

@@ -1,6 +1,6 @@
 -- How bytes are cut into lines at CRLF.
 use Rattle.std.specs.Prelude.{◌≡◌, ℕ, Bool, true, not, ◌&&◌, List, [], ◌∷◌, ◌++◌, Decides, ◌==◌, ◌≢◌}
-use Rattle.std.specs.List.{flat_map, AllByRecursion as All}
+use Rattle.std.specs.List.{flat_map, AllByRecursion}
 
 -- CRLF
 abbrev pub line_end : List ℕ
@@ -15,7 +15,7 @@ unbroken (x ∷ y ∷ xs) = not (x == 13 && y == 10) && unbroken (y ∷ xs)
 -- The input is the lines, each with its CRLF, and a rest that has none.
 pub record Cut (input : List ℕ) (lines : List (List ℕ)) (rest : List ℕ) : Type 0 where
   pub whole : input ≡ flat_map (λ line. line ++ line_end) lines ++ rest
-  pub lines_unbroken : All (λ line. unbroken line ≡ true) lines
+  pub lines_unbroken : AllByRecursion (λ line. unbroken line ≡ true) lines
   pub rest_unbroken : unbroken rest ≡ true
 
 -- Unbroken is what holds no CRLF.
