@@ -1,5 +1,5 @@
 -- The bits of a word under the operations that the code uses.
-use Rattle.std.proofs.Common.{◌≡◌, ℕ, zero, suc, ◌+◌, ◌-◌, ◌*◌, ◌/◌, ◌%◌, ◌^◌, ◌<◌, ◌≤◌, Bool, true, false, cond, not, ◌&&◌, ◌||◌, eqb, leb, ◌⊎◌, sym, refl, ap, ◌∙◌, subst, inl, inr, mul_assoc, pow-suc, div-one, arith, pow_pos, pow_mono, pow-add, shr-shr}
+use Rattle.std.proofs.Common.{◌≡◌, ℕ, zero, suc, ◌+◌, ◌-◌, ◌*◌, ◌/◌, ◌%◌, ◌^◌, ◌<◌, ◌≤◌, Bool, true, false, not, ◌&&◌, ◌||◌, eqb, leb, ◌⊎◌, sym, refl, ap, ◌∙◌, subst, inl, inr, mul_assoc, pow-suc, div-one, arith, pow_pos, pow_mono, pow-add, shr-shr}
 use native.Mathlib.Nat.{div-eq_of_lt, div_self, mul-mod_left}
 use lib.Pow.{pow-lt, shl-shr, ones_lt, ones_split, high, field, mod-mod-pow}
 use lib.Count.{ones, ones_in, ones_step, count_trailing_zeros, under}

@@ -1,5 +1,5 @@
 -- The verdict on what a line says, from what reading it answered.
-use Rattle.std.proofs.Common.{◌≡◌, Some, None, Ok, Err, Option, Result, sym, ap, ◌∙◌}
+use Rattle.std.proofs.Common.{◌≡◌, Some, None, Ok, Err, Option, Result, ap}
 use Rattle.std.specs.Option.{ok_or}
 use Rattle.lifts.specs.Faults.{unless_refused}
 use Rattle.lifts.specs.declared.fault.Fault.{Fault}

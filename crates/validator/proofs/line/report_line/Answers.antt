@@ -1,4 +1,4 @@
-use Rattle.std.proofs.Common.{length, sym, refl, ap, subst, arith, rules}
+use Rattle.std.proofs.Common.{length, sym, ap, subst, arith}
 use Rattle.rows.specs.Texts.{Extended, text_to}
 use Rattle.validator.specs.Report.{line_faults, rows_of}
 use Rattle.validator.proofs.Rows.{none_refused, one_refused, no_row, row_written}

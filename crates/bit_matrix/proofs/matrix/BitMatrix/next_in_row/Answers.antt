@@ -1,4 +1,4 @@
-use Rattle.std.proofs.Common.{◌+◌, ◌*◌, sym, inl, inr, arith}
+use Rattle.std.proofs.Common.{◌+◌, ◌*◌, inl, inr, arith}
 use Rattle.std.proofs.lemmas.Bool.{cases_lt}
 use Rattle.bit_matrix.specs.Matrix.{marked}
 use Rattle.bit_matrix.proofs.Rows.{marked_past}

@@ -1,4 +1,4 @@
-use Rattle.std.proofs.Common.{◌≡◌, ℕ, ◌+◌, ◌-◌, ◌<◌, ◌≤◌, List, length, take, drop}
+use Rattle.std.proofs.Common.{◌≡◌, ℕ, ◌-◌, ◌≤◌, List, length, take, drop}
 use Rattle.rows.specs.Texts.{text_to}
 use Rattle.validator.specs.Progress.{Further, Validated}
 use Rattle.validator.proofs.file.Validator.advance.Given as goal

@@ -1,4 +1,4 @@
-use Rattle.std.proofs.Common.{◌<◌, sym, refl, subst, arith, rules}
+use Rattle.std.proofs.Common.{◌<◌, sym, refl, subst, rules}
 use Rattle.rows.specs.Texts.{text_to}
 use Rattle.std.proofs.lemmas.Bool.{leb-false, leb-true, true≢false}
 use Rattle.validator.specs.Progress.{Finished}
