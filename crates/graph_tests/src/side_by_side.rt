@@ -4,7 +4,6 @@ use bit_matrix::BitMatrix;
 use cell_lists::{Cell, CellLists};
 use conflicts::ConflictGraph;
 use std::process::Abort;
-use std::test::Fail;
 
 // Few numbers, so that pairs meet again, and those at the edges of words and of the range.
 const NUMBERS: [u32; 16] = [
@@ -37,22 +36,13 @@ fn change_both<G: ConflictGraph, H: ConflictGraph>(
     random: &mut Random,
     g: &mut G,
     h: &mut H,
-) -> Result<(), Fail> {
+) {
     let a = random.number();
     let b = random.number();
     match random.next() % 16 {
-        0..=9 => {
-            assert_eq!(rt; g.insert(a, b), h.insert(a, b));
-            Ok(())
-        },
-        10..=14 => {
-            assert_eq!(rt; g.remove(a, b), h.remove(a, b));
-            Ok(())
-        },
-        _ => {
-            assert_eq!(rt; g.isolate(a), h.isolate(a));
-            Ok(())
-        },
+        0..=9 => assert_eq!(rt; g.insert(a, b), h.insert(a, b)),
+        10..=14 => assert_eq!(rt; g.remove(a, b), h.remove(a, b)),
+        _ => assert_eq!(rt; g.isolate(a), h.isolate(a)),
     }
 }
 
@@ -86,19 +76,18 @@ fn many_changes<G: ConflictGraph, H: ConflictGraph>(
     random: &mut Random,
     g: &mut G,
     h: &mut H,
-) -> Result<(), Fail> {
+) {
     for _ in 0..200 {
         for _ in 0..20 {
-            change_both(rt, random, g, h)?;
+            change_both(rt, random, g, h);
         }
         alike_on_numbers(rt, g, h);
     }
     alike_everywhere(rt, g, h);
-    Ok(())
 }
 
 #[test]
-fn both_graphs_answer_alike(rt: HostRuntime) -> Result<(), Fail> {
+fn both_graphs_answer_alike(rt: HostRuntime) {
     let mut words = [u64::MAX; 4096];
     let mut cells = [Cell::blank(); 256];
     let mut matrix = BitMatrix::new(&mut words);
@@ -106,7 +95,7 @@ fn both_graphs_answer_alike(rt: HostRuntime) -> Result<(), Fail> {
     let mut random = Random {
         state: 88172645463325252,
     };
-    many_changes(&rt, &mut random, &mut matrix, &mut lists)
+    many_changes(&rt, &mut random, &mut matrix, &mut lists);
 }
 
 // A graph with room for few pairs refuses just those that the other takes past its capacity.

@@ -1,5 +1,5 @@
 // What a rule of precedence says: an order in which no two lifts of different numbers share a place.
-ghost use Rattle.std.specs.Prelude.{◌≡◌, Bool, true, false, not};
+ghost use Rattle.std.specs.Prelude.{◌≡◌, ◌≢◌, Bool, true, false, not};
 ghost use Rattle.lifts.specs.declared.lift.Lift.{Lift};
 
 use lifts::Lift;
@@ -14,7 +14,7 @@ pub trait Precedence {
     ghost irreflexive: { (order : Self) (r : Lift) → earlier order r r ≡ false };
 
     // of two records with different numbers exactly one stands before the other
-    ghost connected: { (order : Self) (r s : Lift) → (r.number.value ≡ s.number.value → ⊥) → earlier order s r ≡ not (earlier order r s) };
+    ghost connected: { (order : Self) (r s : Lift) → r.number.value ≢ s.number.value → earlier order s r ≡ not (earlier order r s) };
 
     ghost transitive: { (order : Self) (r s t : Lift) → earlier order r s ≡ true → earlier order s t ≡ true → earlier order r t ≡ true };
 }

@@ -107,7 +107,7 @@ impl Validator {
         bytes: &mut [u8],
         cursor: &mut Cursor,
     ) -> usize
-        ensures place { (at ≤ result) × ((at ≤ length block.now → result ≤ length block.now)) }
+        ensures place { (at ≤ result) × (at ≤ length block.now → result ≤ length block.now) }
         ensures moves { at < length block.now → self.old.number < 1000001 → cursor.old.end + 64 ≤ length bytes.old → at < result }
         ensures stops { result < length block.now → self.new.number < 1000001 → length bytes.new < cursor.new.end + 64 }
         ensures law { (input text : List ℕ) → Validated input text self.old.line self.old.number self.old.refused → Further input text (take (result - at) (drop at block.now)) (text_to bytes.old cursor.old.end) (text_to bytes.new cursor.new.end) self.new.line self.new.number self.new.refused }
