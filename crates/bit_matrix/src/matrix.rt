@@ -1,19 +1,19 @@
 // An adjacency matrix: bit y of row x and bit x of row y say that x and y are neighbours.
-ghost use Rattle.std.specs.Prelude.{◌≡◌, ℕ, ◌+◌, ◌*◌, ◌/◌, ◌%◌, ◌<◌, ◌≤◌, true, false, not, ◌&&◌, ◌||◌, length, None, refl};
+ghost use Rattle.std.specs.Prelude.{◌≡◌, ℕ, ◌+◌, ◌*◌, ◌/◌, ◌%◌, ◌<◌, ◌≤◌, true, false, not, ◌&&◌, ◌||◌, length, refl};
 ghost use Rattle.std.proofs.Common.{◌∙◌};
 ghost use Rattle.lifts.specs.Faults.{unless_refused};
-ghost use Rattle.conflicts.specs.Graphs.{Below, SmallestFrom, degree, edge_count, joins};
-ghost use Rattle.conflicts.specs.Refusals.{insert_refusal, memory_refusal, remove_refusal};
-ghost use Rattle.bit_matrix.specs.Matrix.{Cleared, Framed, Loopless, Symmetric, bit_of, capacity_of, marked, suffices, with_entry, without_entry};
+ghost use Rattle.conflicts.specs.Graphs.{Below, SmallestFrom, edge_count, joins};
+ghost use Rattle.conflicts.specs.Refusals.{memory_refusal};
+ghost use Rattle.bit_matrix.specs.Matrix.{Cleared, Framed, Loopless, Symmetric, capacity_of, marked, row_of, suffices, weight_of, with_entry, with_pair};
 ghost use Rattle.bit_matrix.specs.Laws.{framed_on, framed_same, marked_bounded};
 
-use super::bits::{has_bit, next_bit, weight, with_bit, without_bit};
-use conflicts::ConflictGraph;
-use lifts::{Fault, Layer, LiftNumber, LiftPair, Refusal};
+use super::bits::{has_bit, next_bit, weight, with_bit};
+use conflicts::{ConflictGraph, check_memory};
+use lifts::{Fault, Layer, LiftNumber, LiftPair};
 
 const WORDS: usize = 4096;
 
-const ROW_WORDS: u32 = 8;
+const ROW_WORDS: usize = 8;
 
 // As many pairs as 512 numbers have.
 const CAPACITY: u32 = 130_816;
@@ -28,49 +28,33 @@ pub struct BitMatrix<'a> {
     ghost fitting: { edge_count (marked words.now) ≤ capacity_of words.now },
 }
 
-// Where the bit in row `a` and column `b` stands.
-fn place(a: u32, b: u32) -> usize
-    requires { (a < 512) × (b < 512) }
-    ensures { (result ≡ a * 8 + b / 64) × (result < 4096) }
+// The word with the bit in row `a` and column `b`, and which of its bits that is.
+fn place(a: LiftNumber, b: LiftNumber) -> (usize, u32)
+    ensures word { (result.0 ≡ a.value * 8 + b.value / 64) × (result.0 < 4096) }
+    ensures bit { result.1 ≡ b.value % 64 }
 {
-    (a * ROW_WORDS + b / 64) as usize
+    let a = a.get() as usize;
+    let b = b.get();
+    (a * ROW_WORDS + (b / 64) as usize, b % 64)
 }
 
-// Sets one bit, and not the one that mirrors it.
-fn set_entry(words: &mut [u64], a: u32, b: u32)
-    requires { ((a < 512) × (b < 512)) × (suffices words.old ≡ true) }
-    ensures bits { marked words.new ≡ with_entry (marked words.old) a b }
+// Writes one bit, and not the one that mirrors it.
+fn put_entry(words: &mut [u64], a: LiftNumber, b: LiftNumber, stands: bool)
+    requires { suffices words.old ≡ true }
+    ensures bits { (x y : ℕ) → marked words.new x y ≡ with_entry (marked words.old) a.value b.value stands x y }
     ensures frame { Framed words.old words.new }
 {
-    let i = place(a, b);
-    words[i] = with_bit(words[i], b % 64);
+    let (word, bit) = place(a, b);
+    words[word] = with_bit(words[word], bit, stands);
 }
 
-fn clear_entry(words: &mut [u64], a: u32, b: u32)
-    requires { ((a < 512) × (b < 512)) × (suffices words.old ≡ true) }
-    ensures bits { marked words.new ≡ without_entry (marked words.old) a b }
+fn put_pair(words: &mut [u64], pair: LiftPair, stands: bool)
+    requires { suffices words.old ≡ true }
+    ensures bits { (x y : ℕ) → marked words.new x y ≡ with_pair (marked words.old) pair.first.value pair.second.value stands x y }
     ensures frame { Framed words.old words.new }
 {
-    let i = place(a, b);
-    words[i] = without_bit(words[i], b % 64);
-}
-
-fn set_pair(words: &mut [u64], a: u32, b: u32)
-    requires { ((a < 512) × (b < 512)) × (suffices words.old ≡ true) }
-    ensures bits { marked words.new ≡ with_entry (with_entry (marked words.old) a b) b a }
-    ensures frame { Framed words.old words.new }
-{
-    set_entry(words, a, b);
-    set_entry(words, b, a);
-}
-
-fn clear_pair(words: &mut [u64], a: u32, b: u32)
-    requires { ((a < 512) × (b < 512)) × (suffices words.old ≡ true) }
-    ensures bits { marked words.new ≡ without_entry (without_entry (marked words.old) a b) b a }
-    ensures frame { Framed words.old words.new }
-{
-    clear_entry(words, a, b);
-    clear_entry(words, b, a);
+    put_entry(words, pair.first(), pair.second(), stands);
+    put_entry(words, pair.second(), pair.first(), stands);
 }
 
 // Too few words are no matrix, and are left as they are.
@@ -79,7 +63,7 @@ fn clear_matrix(words: &mut [u64])
     ensures cleared { Cleared words.old words.new }
 {
     if words.len() >= WORDS {
-        words[0..WORDS].fill(0);
+        words[..WORDS].fill(0);
     }
 }
 
@@ -88,10 +72,7 @@ impl<'a> BitMatrix<'a> {
     pub fn check(words: &[u64]) -> Result<(), Fault>
         ensures { result ≡ unless_refused (memory_refusal 4096 (length words.now)) tt }
     {
-        if words.len() < WORDS {
-            return Err(Fault::without_lift(Refusal::TooLittleMemory, Layer::Setup));
-        }
-        Ok(())
+        check_memory(words.len(), WORDS)
     }
 
     // A graph without pairs. Over too few words its capacity is 0.
@@ -105,6 +86,7 @@ impl<'a> BitMatrix<'a> {
     }
 
     // Over words that have no bit set in the matrix.
+    #[tactic(auto, using(conflicts::proofs::Edges::edges_none))]
     fn over(words: &'a mut [u64]) -> BitMatrix<'a>
         requires { (x y : ℕ) → marked words.old x y ≡ false }
         ensures lent { result.words.now ≡ words.old }
@@ -120,93 +102,68 @@ impl<'a> BitMatrix<'a> {
         self.words.len() >= WORDS
     }
 
-    fn has(&self, a: u32, b: u32) -> bool
-        requires { (a < 512) × (b < 512) }
-        ensures { result ≡ marked self.now.words.now a b }
+    #[tactic(auto, unfolding(crate::specs::Matrix::marked))]
+    fn has(&self, a: LiftNumber, b: LiftNumber) -> bool
+        ensures { result ≡ marked self.now.words.now a.value b.value }
     {
-        self.suffices() && has_bit(self.words[place(a, b)], b % 64)
+        let (word, bit) = place(a, b);
+        self.suffices() && has_bit(self.words[word], bit)
     }
 
-    // Word `k` of row `a`: the columns from 64 k on.
-    fn row_word(&self, a: u32, k: u32) -> u64
-        requires { (a < 512) × (k < 8) }
-        ensures { (i : ℕ) → i < 64 → bit_of result i ≡ marked self.now.words.now a (k * 64 + i) }
+    // The words of row `a`, none where they are too few for a matrix.
+    fn row(&self, a: LiftNumber) -> &[u64]
+        ensures words { result.now ≡ row_of self.now.words.now a.value }
+        ensures short { length result.now ≤ 8 }
     {
         if !self.suffices() {
-            return 0;
+            return &[];
         }
-        self.words[(a * ROW_WORDS + k) as usize]
+        let start = a.get() as usize * ROW_WORDS;
+        &self.words[start..start + ROW_WORDS]
     }
 
-    fn row_weight(&self, a: u32) -> u32
-        requires { a < 512 }
-        ensures { result ≡ degree (marked self.now.words.now) a }
+    fn row_weight(&self, a: LiftNumber) -> u32
+        ensures { result ≡ weight_of (row_of self.now.words.now a.value) }
     {
-        let mut total = 0;
-        for k in 0..ROW_WORDS {
-            total += weight(self.row_word(a, k));
-        }
-        total
+        self.row(a).iter().copied().map(weight).sum()
     }
 
-    fn next_in_row(&self, a: u32, from: u32) -> Option<u32>
-        requires { a < 512 }
-        ensures next { SmallestFrom (marked self.now.words.now a) from result }
+    fn next_in_row(&self, a: LiftNumber, from: u32) -> Option<u32>
+        ensures next { SmallestFrom (marked self.now.words.now a.value) from result }
         ensures within { Below 512 result }
     {
-        let mut start = from % 64;
-        for k in from / 64..ROW_WORDS {
-            if let Some(i) = next_bit(self.row_word(a, k), start) {
-                return Some(k * 64 + i);
+        for (k, word) in self.row(a).iter().enumerate() {
+            // The column of the word's lowest bit.
+            let first = k as u32 * 64;
+            if let Some(i) = next_bit(*word, from.saturating_sub(first)) {
+                return Some(first + i);
             }
-            start = 0;
         }
         None
     }
 
-    // What refuses the pair, if anything does; `join` then cannot be refused.
-    fn check_insert(&self, a: u32, b: u32) -> Result<(), Fault>
-        ensures { result ≡ unless_refused (insert_refusal (marked self.now.words.now) (capacity_of self.now.words.now) a b) tt }
-    {
-        LiftPair::new(a, b, Layer::Book)?;
-        if self.has(a, b) {
-            return Err(Fault::about(Refusal::ClashStands, Layer::Book, a));
-        }
-        if self.edge_count() >= self.capacity() {
-            return Err(Fault::about(Refusal::GraphFull, Layer::Book, a));
-        }
-        Ok(())
-    }
-
-    fn check_remove(&self, a: u32, b: u32) -> Result<(), Fault>
-        ensures { result ≡ unless_refused (remove_refusal (marked self.now.words.now) a b) tt }
-    {
-        LiftPair::new(a, b, Layer::Book)?;
-        if !self.has(a, b) {
-            return Err(Fault::about(Refusal::NoSuchClash, Layer::Book, a));
-        }
-        Ok(())
-    }
-
-    fn join(&mut self, a: u32, b: u32)
-        requires { insert_refusal (marked self.old.words.now) (capacity_of self.old.words.now) a b ≡ None }
-        ensures after { (x y : ℕ) → marked self.new.words.now x y ≡ (marked self.old.words.now x y || joins a b x y) }
+    // Adds a pair that does not stand, where there is room for it.
+    fn join(&mut self, pair: LiftPair)
+        requires missing { marked self.old.words.now pair.first.value pair.second.value ≡ false }
+        requires room { edge_count (marked self.old.words.now) < capacity_of self.old.words.now }
+        ensures after { (x y : ℕ) → marked self.new.words.now x y ≡ (marked self.old.words.now x y || joins pair.first.value pair.second.value x y) }
         ensures frame { Framed self.old.words.now self.new.words.now }
         ensures named { self.new.words.ghost_name ≡ self.old.words.ghost_name }
     {
         let BitMatrix { words, edges, .. } = self;
-        set_pair(words, a, b);
+        put_pair(words, pair, true);
         *edges += 1;
     }
 
-    fn part(&mut self, a: u32, b: u32)
-        requires { remove_refusal (marked self.old.words.now) a b ≡ None }
-        ensures after { (x y : ℕ) → marked self.new.words.now x y ≡ (marked self.old.words.now x y && not (joins a b x y)) }
+    // Removes a pair that stands.
+    fn part(&mut self, pair: LiftPair)
+        requires { marked self.old.words.now pair.first.value pair.second.value ≡ true }
+        ensures after { (x y : ℕ) → marked self.new.words.now x y ≡ (marked self.old.words.now x y && not (joins pair.first.value pair.second.value x y)) }
         ensures frame { Framed self.old.words.now self.new.words.now }
         ensures named { self.new.words.ghost_name ≡ self.old.words.ghost_name }
     {
         let BitMatrix { words, edges, .. } = self;
-        clear_pair(words, a, b);
+        put_pair(words, pair, false);
         *edges -= 1;
     }
 }
@@ -239,30 +196,31 @@ impl ConflictGraph for BitMatrix<'_> {
     }
 
     fn contains(&self, a: u32, b: u32) -> Result<bool, Fault> {
-        LiftNumber::new(a, Layer::Book)?;
-        LiftNumber::new(b, Layer::Book)?;
+        let a = LiftNumber::new(a, Layer::Book)?;
+        let b = LiftNumber::new(b, Layer::Book)?;
         Ok(self.has(a, b))
     }
 
+    #[tactic(auto, using(crate::proofs::Scan::row_degree))]
     fn degree(&self, a: u32) -> Result<u32, Fault> {
-        LiftNumber::new(a, Layer::Book)?;
+        let a = LiftNumber::new(a, Layer::Book)?;
         Ok(self.row_weight(a))
     }
 
     fn next_neighbour(&self, a: u32, from: u32) -> Result<Option<u32>, Fault> {
-        LiftNumber::new(a, Layer::Book)?;
+        let a = LiftNumber::new(a, Layer::Book)?;
         Ok(self.next_in_row(a, from))
     }
 
     fn insert(&mut self, a: u32, b: u32) -> Result<(), Fault> {
-        self.check_insert(a, b)?;
-        self.join(a, b);
+        let pair = self.check_insert(a, b)?;
+        self.join(pair);
         Ok(())
     }
 
     fn remove(&mut self, a: u32, b: u32) -> Result<(), Fault> {
-        self.check_remove(a, b)?;
-        self.part(a, b);
+        let pair = self.check_remove(a, b)?;
+        self.part(pair);
         Ok(())
     }
 }

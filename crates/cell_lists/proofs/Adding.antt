@@ -1,9 +1,9 @@
 -- A free cell becomes the top cell of the chain a and names b.
 use Rattle.std.proofs.Common.{◌≡◌, ℕ, suc, ◌+◌, ◌-◌, ◌<◌, false, ◌&&◌, ◌||◌, eqb, sym, refl, ap, ◌∙◌, inl, inr, arith}
 use Rattle.std.proofs.lemmas.Bool.{and_from, and_parts, both_ways, cases_eq, eq-eqb, eqb-true, or_cases, or_left, or_right}
-use Rattle.cell_lists.specs.Chains.{Inside, Moved, View, holds, named}
-use Rattle.cell_lists.proofs.Places.{Distinct, count_else, count_to, named_else, named_top, named_under}
-use Rattle.cell_lists.proofs.Standing.{Unrepeated, agree, holds_in, holds_out}
+use Rattle.cell_lists.specs.Chains.{Disjoint, Inside, Moved, Single, View, holds, named}
+use Rattle.cell_lists.proofs.Places.{count_else, count_to, named_else, named_top, named_under}
+use Rattle.cell_lists.proofs.Standing.{agree, holds_in, holds_out}
 
 -- the place j of the chain x is the new one, or one from before
 pub record Came (v w : View) (a b x j : ℕ) : Type 0 where
@@ -11,7 +11,7 @@ pub record Came (v w : View) (a b x j : ℕ) : Type 0 where
   pub new : (x ≡ a) → j ≡ 0 → named w x j ≡ b
   pub other : (x ≡ a → ⊥) → (j < v.count x) × (named w x j ≡ named v x j)
 
-pub came : (v w : View) (a b x j : ℕ) → Moved v w 512 a b → Distinct v → 0 < v.count 512 → a < 512 → x < 512 → j < w.count x → Came v w a b x j
+pub came : (v w : View) (a b x j : ℕ) → Moved v w 512 a b → Disjoint v → 0 < v.count 512 → a < 512 → x < 512 → j < w.count x → Came v w a b x j
 came v w a b x j mv ds p la lx lj =
     record {
       same_chain = λ xa pos.
@@ -28,7 +28,7 @@ came v w a b x j mv ds p la lx lj =
           (k, named_else v w 512 a b x j mv ds na (λ e. omega arith) p k);
     }
 
-pub holds_add : (v w : View) (a b : ℕ) → Moved v w 512 a b → Distinct v → 0 < v.count 512 → a < 512 → b < 512 → (x y : ℕ) →
+pub holds_add : (v w : View) (a b : ℕ) → Moved v w 512 a b → Disjoint v → 0 < v.count 512 → a < 512 → b < 512 → (x y : ℕ) →
     holds w x y ≡ (holds v x y || (eqb x a && eqb y b))
 holds_add v w a b mv ds p la lb x y =
     agree (holds w x y) (holds v x y || (eqb x a && eqb y b))
@@ -67,7 +67,7 @@ holds_add v w a b mv ds p la lb x y =
           holds_in w x y 0 (omega arith) (omega arith) k ((came v w a b x 0 mv ds p la (omega arith) k).new xa refl ∙ sym yb)
     ])
 
-pub inside_add : (v w : View) (a b : ℕ) → Moved v w 512 a b → Distinct v → 0 < v.count 512 → a < 512 → b < 512 → Inside v → Inside w
+pub inside_add : (v w : View) (a b : ℕ) → Moved v w 512 a b → Disjoint v → 0 < v.count 512 → a < 512 → b < 512 → Inside v → Inside w
 inside_add v w a b mv ds p la lb ins x j lx lj =
     let c = came v w a b x j mv ds p la lx lj in
     elim (cases_eq x a) [
@@ -78,7 +78,7 @@ inside_add v w a b mv ds p la lb ins x j lx lj =
       | inr na ↦ let s = c.other na in let e = s.1 in let i = ins x j lx s.0 in omega arith
     ]
 
-pub single_add : (v w : View) (a b : ℕ) → Moved v w 512 a b → Distinct v → 0 < v.count 512 → a < 512 → b < 512 → holds v a b ≡ false → Unrepeated v → Unrepeated w
+pub single_add : (v w : View) (a b : ℕ) → Moved v w 512 a b → Disjoint v → 0 < v.count 512 → a < 512 → b < 512 → holds v a b ≡ false → Single v → Single w
 single_add v w a b mv ds p la lb no-pair si x j k lx lj lk e =
     let c = came v w a b x j mv ds p la lx lj in
     let d = came v w a b x k mv ds p la lx lk in

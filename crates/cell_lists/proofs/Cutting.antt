@@ -2,15 +2,15 @@
 use Rattle.std.proofs.Common.{◌≡◌, ℕ, suc, ◌-◌, ◌<◌, Bool, true, false, cond, not, ◌&&◌, eqb, sym, ap, ◌∙◌, inl, inr, arith}
 use Rattle.std.proofs.lemmas.Bool.Decides.{nat_tests}
 use Rattle.std.proofs.lemmas.Bool.{and_from, and_parts, both_ways, cases_Bool, cases_eq, eq-eqb, ne_eqb, not_from_false, not-true}
-use Rattle.cell_lists.specs.Chains.{Cut, Inside, Stands, View, holds, named, place, renamed}
-use Rattle.cell_lists.proofs.Places.{Distinct, along_zero, count_else, count_from, named_else, named_from, place_else}
-use Rattle.cell_lists.proofs.Standing.{Unrepeated, agree, holds_in, holds_out}
+use Rattle.cell_lists.specs.Chains.{Cut, Disjoint, Inside, Single, Stands, View, holds, named, place, renamed}
+use Rattle.cell_lists.proofs.Places.{along_zero, count_else, count_from, named_else, named_from, place_else}
+use Rattle.cell_lists.proofs.Standing.{agree, holds_in, holds_out}
 
 -- the place from before that the place j now stands for
 abbrev pub kept_at : ℕ → ℕ → ℕ
 kept_at k j = cond (eqb (suc j) k) 0 (suc j)
 
-renamed_at : (v : View) (a k i : ℕ) → Distinct v → k < v.count a → i < v.count a →
+renamed_at : (v : View) (a k i : ℕ) → Disjoint v → k < v.count a → i < v.count a →
     named (renamed v (place v a k) (v.neighbour (v.head a))) a i ≡ cond (eqb i k) (named v a 0) (named v a i)
 renamed_at v a k i ds lk li = elim (cases_eq i k) [
   | inl e ↦
@@ -23,7 +23,7 @@ renamed_at v a k i ds lk li = elim (cases_eq i k) [
       ap (λ t. cond t (v.neighbour (v.head a)) (named v a i)) o ∙ sym (ap (λ t. cond t (named v a 0) (named v a i)) z)
 ]
 
-renamed_else : (v : View) (a k x i n : ℕ) → Distinct v → k < v.count a → i < v.count x → (x ≡ a → ⊥) → named (renamed v (place v a k) n) x i ≡ named v x i
+renamed_else : (v : View) (a k x i n : ℕ) → Disjoint v → k < v.count a → i < v.count x → (x ≡ a → ⊥) → named (renamed v (place v a k) n) x i ≡ named v x i
 renamed_else v a k x i n ds lk li d =
     ap (λ t. cond t n (named v x i)) (ne_eqb (place v x i) (place v a k) (λ e. d (ds x i a k li lk e).0))
 
@@ -37,7 +37,7 @@ choose k j f = elim (cases_Bool (eqb (suc j) k)) [
   | inr e ↦ ap (λ t. cond t (f 0) (f (suc j))) e ∙ sym (ap (λ (t : Bool). f (cond t 0 (suc j))) e)
 ]
 
-pub left : (v w : View) (a k x j : ℕ) → Cut v w a (place v a k) → Distinct v → k < v.count a → a < 512 → x < 512 → j < w.count x → Left v w a k x j
+pub left : (v w : View) (a k x j : ℕ) → Cut v w a (place v a k) → Disjoint v → k < v.count a → a < 512 → x < 512 → j < w.count x → Left v w a k x j
 left v w a k x j mv ds lk la lx lj =
     let u = renamed v (place v a k) (v.neighbour (v.head a)) in
     let p : 0 < v.count a = omega arith in
@@ -71,7 +71,7 @@ kept_now k i d = elim (cases_eq i 0) [ inl z ↦ grind (arith, nat_tests) | inr 
 now_below : (k i n : ℕ) → (i ≡ k → ⊥) → i < n → k < n → now_at k i < n - 1
 now_below k i n d l m = elim (cases_eq i 0) [ inl z ↦ grind (arith, nat_tests) | inr o ↦ grind (arith, nat_tests) ]
 
-pub inside_cut : (v w : View) (a k : ℕ) → Cut v w a (place v a k) → Distinct v → k < v.count a → a < 512 → Inside v → Inside w
+pub inside_cut : (v w : View) (a k : ℕ) → Cut v w a (place v a k) → Disjoint v → k < v.count a → a < 512 → Inside v → Inside w
 inside_cut v w a k mv ds lk la ins x j lx lj =
     let c = left v w a k x j mv ds lk la lx lj in
     elim (cases_eq x a) [
@@ -79,7 +79,7 @@ inside_cut v w a k mv ds lk la ins x j lx lj =
       | inr na ↦ let s = c.other na in let e = s.1 in let i = ins x j lx s.0 in omega arith
     ]
 
-pub single_cut : (v w : View) (a k : ℕ) → Cut v w a (place v a k) → Distinct v → k < v.count a → a < 512 → Unrepeated v → Unrepeated w
+pub single_cut : (v w : View) (a k : ℕ) → Cut v w a (place v a k) → Disjoint v → k < v.count a → a < 512 → Single v → Single w
 single_cut v w a k mv ds lk la si x i j lx li lj e =
     let c = left v w a k x i mv ds lk la lx li in
     let d = left v w a k x j mv ds lk la lx lj in
@@ -88,7 +88,7 @@ single_cut v w a k mv ds lk la si x i j lx li lj e =
       | inr na ↦ let s = c.other na in let t = d.other na in si x i j lx s.0 t.0 (sym s.1 ∙ e ∙ t.1)
     ]
 
-pub holds_cut : (v w : View) (a b k : ℕ) → Cut v w a (place v a k) → Distinct v → k < v.count a → a < 512 → b < 512 → named v a k ≡ b → Unrepeated v → (x y : ℕ) →
+pub holds_cut : (v w : View) (a b k : ℕ) → Cut v w a (place v a k) → Disjoint v → k < v.count a → a < 512 → b < 512 → named v a k ≡ b → Single v → (x y : ℕ) →
     holds w x y ≡ (holds v x y && not (eqb x a && eqb y b))
 holds_cut v w a b k mv ds lk la lb nk si x y =
     agree (holds w x y) (holds v x y && not (eqb x a && eqb y b))
@@ -132,7 +132,7 @@ holds_cut v w a b k mv ds lk la lb nk si x y =
     ])
 
 -- b's cell is where it was after a's cell is cut
-pub stands_else : (v w : View) (a b k c d : ℕ) → Cut v w a (place v a k) → Distinct v → k < v.count a → a < 512 → b < 512 → (b ≡ a → ⊥) → Stands v b c d → Stands w b c d
+pub stands_else : (v w : View) (a b k c d : ℕ) → Cut v w a (place v a k) → Disjoint v → k < v.count a → a < 512 → b < 512 → (b ≡ a → ⊥) → Stands v b c d → Stands w b c d
 stands_else v w a b k c d mv ds lk la lb nb s =
     let u = renamed v (place v a k) (v.neighbour (v.head a)) in
     let g : w.count b ≡ v.count b = count_else u w a 512 0 b mv (λ e. omega arith) nb in

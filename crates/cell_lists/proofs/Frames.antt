@@ -3,8 +3,9 @@ use Rattle.std.proofs.Common.{◌≡◌, ℕ, ◌+◌, ◌<◌, ◌≤◌, List,
 use Rattle.std.proofs.lemmas.Bool.Decides.{nat_tests}
 use Rattle.std.proofs.lemmas.List.{ext_get_or}
 use Rattle.cell_lists.specs.declared.cell.Cell.{Cell}
+use Rattle.cell_lists.specs.declared.chains.Memory.{Memory}
 use Rattle.cell_lists.specs.Chains.{Cut, Moved, View}
-use Rattle.cell_lists.specs.Memory.{blank, view}
+use Rattle.cell_lists.specs.Memory.{Kept, blank, view}
 
 -- from the cell m on nothing has changed
 pub record Past (m : ℕ) (v w : View) : Type 0 where
@@ -32,7 +33,8 @@ past_drop cs ds m e h =
     (λ i l. get_or-drop m ds i blank ∙ h (m + i) (omega arith) ∙ sym (get_or-drop m cs i blank))
 
 -- two steps, one after the other
-pub beyond_two : (cs ds : List Cell) (hs ns hs' ns' : List ℕ) (u : View) (m : ℕ) → length ds ≡ length cs
-    → Past m (view cs hs ns) u → Past m u (view ds hs' ns') → drop m ds ≡ drop m cs
-beyond_two cs ds hs ns hs' ns' u m e p q =
-    past_drop cs ds m e (λ i l. same_cell (get_or ds i blank) (get_or cs i blank) (q.neighbours i l ∙ p.neighbours i l) (q.links i l ∙ p.links i l))
+pub beyond_two : (k l n : Memory) (m : ℕ) → Kept k l → Kept l n → Past m (view k) (view l) → Past m (view l) (view n)
+    → drop m n.cells.now ≡ drop m k.cells.now
+beyond_two k l n m s t p q =
+    past_drop k.cells.now n.cells.now m (t.same_length ∙ s.same_length)
+    (λ i h. same_cell (get_or n.cells.now i blank) (get_or k.cells.now i blank) (q.neighbours i h ∙ p.neighbours i h) (q.links i h ∙ p.links i h))

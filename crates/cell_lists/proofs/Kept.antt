@@ -3,17 +3,16 @@ use Rattle.std.proofs.Common.{◌≡◌, ℕ, ◌+◌, ◌*◌, ◌≤◌, arith
 use Rattle.conflicts.specs.Graphs.{edge_count}
 use Rattle.cell_lists.specs.declared.lists.CellLists.{CellLists}
 use Rattle.cell_lists.specs.Chains.{Bounded, Degrees, Disjoint, Inside, Loopless, Ranged, Single, Symmetric, View, holds}
-use Rattle.cell_lists.specs.Lists.{memory}
-use Rattle.cell_lists.proofs.Places.{distinct_of, distinct_to}
-use Rattle.cell_lists.proofs.Standing.{holds_bounded, single_of, single_to}
+use Rattle.cell_lists.specs.Memory.{view}
+use Rattle.cell_lists.proofs.Standing.{holds_bounded}
 use Rattle.cell_lists.proofs.Whole.{Whole}
 
-pub whole_of : (l : CellLists) → Whole (memory l) (2 * l.capacity) l.pairs
+pub whole_of : (l : CellLists) → Whole (view l.memory) (2 * l.capacity) l.pairs
 whole_of l = record {
   ranged = l.ranged;
-  distinct = distinct_of (memory l) l.disjoint;
+  disjoint = l.disjoint;
   inside = l.inside;
-  single = single_of (memory l) l.single;
+  single = l.single;
   symmetric = l.symmetric;
   loopless = l.loopless;
   degrees = l.degrees;
@@ -46,9 +45,9 @@ fields_of v cells pairs capacity long most wh =
       long = long;
       most = most;
       ranged = wh.ranged;
-      disjoint = distinct_to v wh.distinct;
+      disjoint = wh.disjoint;
       inside = wh.inside;
-      single = single_to v wh.single;
+      single = wh.single;
       symmetric = wh.symmetric;
       loopless = wh.loopless;
       bounded = holds_bounded v;

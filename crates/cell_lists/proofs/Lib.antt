@@ -1,4 +1,6 @@
 mod Places
+mod Smallest
+mod Walks
 mod Standing
 mod Adding
 mod Cutting

@@ -1,18 +1,8 @@
 -- Where the cells of each chain are after the top cell of one has moved to another.
-use Rattle.std.proofs.Common.{◌≡◌, ℕ, zero, suc, ◌+◌, ◌-◌, ◌<◌, cond, ◌&&◌, eqb, sym, refl, ap, ◌∙◌, inl, inr, add-one, arith}
+use Rattle.std.proofs.Common.{◌≡◌, ℕ, zero, suc, ◌+◌, ◌-◌, ◌<◌, cond, ◌&&◌, eqb, sym, refl, ap, ◌∙◌, inl, inr, arith}
 use Rattle.std.proofs.lemmas.Bool.Decides.{nat_tests}
 use Rattle.std.proofs.lemmas.Bool.{cases_eq}
 use Rattle.cell_lists.specs.Chains.{View, along, place, named, Ranged, Disjoint, Moved}
-
--- no cell stands at two places
-abbrev pub Distinct : View → Type 0
-Distinct v = (x j y k : ℕ) → j < v.count x → k < v.count y → place v x j ≡ place v y k → (x ≡ y) × (j ≡ k)
-
-pub distinct_of : (v : View) → Disjoint v → Distinct v
-distinct_of v ds x j y k l m e = ds (record { x = x; j = j; y = y; k = k; first = l; second = m; meet = e })
-
-pub distinct_to : (v : View) → Distinct v → Disjoint v
-distinct_to v ds t = ds t.x t.j t.y t.k t.first t.second t.meet
 
 -- ---- along the links
 
@@ -31,10 +21,6 @@ along_frame next next' h i (suc j) e d =
 pub along_zero : (next : ℕ → ℕ) (i : ℕ) → along next i 0 ≡ i
 unfolding along
 along_zero next i = refl
-
-pub along_next : (next : ℕ → ℕ) (i j : ℕ) → along next i (j + 1) ≡ next (along next i j)
-unfolding along
-along_next next i j = rw add-one refl
 
 -- ---- where the cell at the place j of the chain x was before a move
 
@@ -79,7 +65,7 @@ link_else v w f t b i mv d = let e = mv.links i in grind (arith, nat_tests)
 pub place_top : (v w : View) (f t b : ℕ) → Moved v w f t b → place w t 0 ≡ place v f 0
 place_top v w f t b mv = along_zero w.next (w.head t) ∙ head_to v w f t b mv ∙ sym (along_zero v.next (v.head f))
 
-pub place_under : (v w : View) (f t b k : ℕ) → Moved v w f t b → Distinct v → (f ≡ t → ⊥) → 0 < v.count f → k < v.count t → place w t (suc k) ≡ place v t k
+pub place_under : (v w : View) (f t b k : ℕ) → Moved v w f t b → Disjoint v → (f ≡ t → ⊥) → 0 < v.count f → k < v.count t → place w t (suc k) ≡ place v t k
 place_under v w f t b k mv ds d p l =
     along_shift w.next (w.head t) k
     ∙ ap (λ i. along w.next (w.next i) k) (head_to v w f t b mv)
@@ -87,20 +73,20 @@ place_under v w f t b k mv ds d p l =
     ∙ along_frame v.next w.next (v.head f) (v.head t) k (λ i n. link_else v w f t b i mv n)
     (λ i m e. d (sym (ds t i f 0 (omega arith) p (e ∙ sym (along_zero v.next (v.head f)))).0))
 
-pub place_from : (v w : View) (f t b j : ℕ) → Moved v w f t b → Distinct v → (f ≡ t → ⊥) → 0 < v.count f → suc j < v.count f → place w f j ≡ place v f (suc j)
+pub place_from : (v w : View) (f t b j : ℕ) → Moved v w f t b → Disjoint v → (f ≡ t → ⊥) → 0 < v.count f → suc j < v.count f → place w f j ≡ place v f (suc j)
 place_from v w f t b j mv ds d p l =
     ap (λ i. along w.next i j) (head_from v w f t b mv d)
     ∙ along_frame v.next w.next (v.head f) (v.next (v.head f)) j (λ i n. link_else v w f t b i mv n)
     (λ i m e. let z : suc i ≡ 0 = (ds f (suc i) f 0 (omega arith) p (along_shift v.next (v.head f) i ∙ e ∙ sym (along_zero v.next (v.head f)))).1 in omega arith)
     ∙ sym (along_shift v.next (v.head f) j)
 
-pub place_else : (v w : View) (f t b x j : ℕ) → Moved v w f t b → Distinct v → (x ≡ t → ⊥) → (x ≡ f → ⊥) → 0 < v.count f → j < v.count x → place w x j ≡ place v x j
+pub place_else : (v w : View) (f t b x j : ℕ) → Moved v w f t b → Disjoint v → (x ≡ t → ⊥) → (x ≡ f → ⊥) → 0 < v.count f → j < v.count x → place w x j ≡ place v x j
 place_else v w f t b x j mv ds d g p l =
     ap (λ i. along w.next i j) (head_else v w f t b x mv d g)
     ∙ along_frame v.next w.next (v.head f) (v.head x) j (λ i n. link_else v w f t b i mv n)
     (λ i m e. g (ds x i f 0 (omega arith) p (e ∙ sym (along_zero v.next (v.head f)))).0)
 
-pub was_place : (v w : View) (f t b x j : ℕ) → Moved v w f t b → Distinct v → (f ≡ t → ⊥) → 0 < v.count f → j < w.count x →
+pub was_place : (v w : View) (f t b x j : ℕ) → Moved v w f t b → Disjoint v → (f ≡ t → ⊥) → 0 < v.count f → j < w.count x →
     place w x j ≡ place v (was_chain f t x j) (was_at f t x j)
 was_place v w f t b x j mv ds d p l =
     let e = mv.counts x in
@@ -136,14 +122,14 @@ was_one f t x j y k d c a = (grind (arith, nat_tests), grind (arith, nat_tests))
 
 -- ---- a move keeps the chains apart
 
-pub moved_ranged : (v w : View) (f t b m : ℕ) → Moved v w f t b → Distinct v → Ranged v m → (f ≡ t → ⊥) → 0 < v.count f → Ranged w m
+pub moved_ranged : (v w : View) (f t b m : ℕ) → Moved v w f t b → Disjoint v → Ranged v m → (f ≡ t → ⊥) → 0 < v.count f → Ranged w m
 moved_ranged v w f t b m mv ds rg d p x j l =
     let e = was_place v w f t b x j mv ds d p l in
     let r = rg (was_chain f t x j) (was_at f t x j) (was_valid v w f t b x j mv d p l) in
     omega arith
 
-pub moved_distinct : (v w : View) (f t b : ℕ) → Moved v w f t b → Distinct v → (f ≡ t → ⊥) → 0 < v.count f → Distinct w
-moved_distinct v w f t b mv ds d p x j y k l m e =
+pub moved_disjoint : (v w : View) (f t b : ℕ) → Moved v w f t b → Disjoint v → (f ≡ t → ⊥) → 0 < v.count f → Disjoint w
+moved_disjoint v w f t b mv ds d p x j y k l m e =
     let o = ds (was_chain f t x j) (was_at f t x j) (was_chain f t y k) (was_at f t y k) (was_valid v w f t b x j mv d p l) (was_valid v w f t b y k mv d p m)
     (sym (was_place v w f t b x j mv ds d p l) ∙ e ∙ was_place v w f t b y k mv ds d p m) in
     was_one f t x j y k d o.0 o.1
@@ -157,17 +143,17 @@ named_top v w f t b mv =
 neighbour_else : (v w : View) (f t b i : ℕ) → Moved v w f t b → (i ≡ v.head f → ⊥) → w.neighbour i ≡ v.neighbour i
 neighbour_else v w f t b i mv d = let e = mv.neighbours i in grind (arith, nat_tests)
 
-pub named_under : (v w : View) (f t b k : ℕ) → Moved v w f t b → Distinct v → (f ≡ t → ⊥) → 0 < v.count f → k < v.count t → named w t (suc k) ≡ named v t k
+pub named_under : (v w : View) (f t b k : ℕ) → Moved v w f t b → Disjoint v → (f ≡ t → ⊥) → 0 < v.count f → k < v.count t → named w t (suc k) ≡ named v t k
 named_under v w f t b k mv ds d p l =
     ap w.neighbour (place_under v w f t b k mv ds d p l)
     ∙ neighbour_else v w f t b (place v t k) mv (λ e. d (sym (ds t k f 0 l p (e ∙ sym (along_zero v.next (v.head f)))).0))
 
-pub named_from : (v w : View) (f t b j : ℕ) → Moved v w f t b → Distinct v → (f ≡ t → ⊥) → 0 < v.count f → suc j < v.count f → named w f j ≡ named v f (suc j)
+pub named_from : (v w : View) (f t b j : ℕ) → Moved v w f t b → Disjoint v → (f ≡ t → ⊥) → 0 < v.count f → suc j < v.count f → named w f j ≡ named v f (suc j)
 named_from v w f t b j mv ds d p l =
     ap w.neighbour (place_from v w f t b j mv ds d p l)
     ∙ neighbour_else v w f t b (place v f (suc j)) mv (λ e. let z : suc j ≡ 0 = (ds f (suc j) f 0 l p (e ∙ sym (along_zero v.next (v.head f)))).1 in omega arith)
 
-pub named_else : (v w : View) (f t b x j : ℕ) → Moved v w f t b → Distinct v → (x ≡ t → ⊥) → (x ≡ f → ⊥) → 0 < v.count f → j < v.count x → named w x j ≡ named v x j
+pub named_else : (v w : View) (f t b x j : ℕ) → Moved v w f t b → Disjoint v → (x ≡ t → ⊥) → (x ≡ f → ⊥) → 0 < v.count f → j < v.count x → named w x j ≡ named v x j
 named_else v w f t b x j mv ds d g p l =
     ap w.neighbour (place_else v w f t b x j mv ds d g p l)
     ∙ neighbour_else v w f t b (place v x j) mv (λ e. g (ds x j f 0 l p (e ∙ sym (along_zero v.next (v.head f)))).0)

@@ -1,8 +1,8 @@
 -- When a pair stands: some place of the chain names the neighbour.
-use Rattle.std.proofs.Common.{◌≡◌, ℕ, ◌<◌, Bool, true, false, ◌&&◌, eqb, ltb, Some, None, Decides, Option, refl, inl, inr, arith}
+use Rattle.std.proofs.Common.{◌≡◌, ℕ, ◌<◌, Bool, true, false, ◌&&◌, eqb, ltb, Decides, refl, inl, inr, arith}
 use Rattle.std.proofs.lemmas.Bool.Decides.{Decides-below_or, same_from_decides}
 use Rattle.std.proofs.lemmas.Bool.{and_from, and_parts, cases_Bool, eq-eqb, eqb-true, lt-ltb, ltb-true}
-use Rattle.cell_lists.specs.Chains.{Bounded, Located, Single, Stands, View, Walked, holds, named, some_below}
+use Rattle.cell_lists.specs.Chains.{Bounded, Stands, View, holds, named, some_below}
 
 pub some_decides : (p : ℕ → Bool) (n : ℕ) → Decides (some_below p n) ((k : ℕ) × (k < n) × (p k ≡ true))
 unfolding some_below
@@ -46,18 +46,3 @@ holds_bounded v x y l = holds_not v x y (λ j lx ly lj e. omega arith)
 
 pub stands_holds : (v : View) (a b c : ℕ) → a < 512 → b < 512 → Stands v a b c → holds v a b ≡ true
 stands_holds v a b c la lb s = holds_in v a b s.k la lb s.within s.names
-
-pub located : (v : View) (a b : ℕ) (r : Option ℕ) → a < 512 → b < 512 → Walked v a b r → Located v a b r
-located v a b (Some c) la lb s = (stands_holds v a b c la lb s, s)
-located v a b None la lb w = holds_not v a b (λ j lx ly lj e. w j lj e)
-
--- ---- each neighbour is named once
-
-abbrev pub Unrepeated : View → Type 0
-Unrepeated v = (x j k : ℕ) → x < 512 → j < v.count x → k < v.count x → named v x j ≡ named v x k → j ≡ k
-
-pub single_of : (v : View) → Single v → Unrepeated v
-single_of v s x j k b l m e = s (record { x = x; j = j; k = k; below = b; first = l; second = m; both = e })
-
-pub single_to : (v : View) → Unrepeated v → Single v
-single_to v s t = s t.x t.j t.k t.below t.first t.second t.both

@@ -1,20 +1,16 @@
 -- The start: all cells in one free chain 0, 1, 2, .., and no pair.
-use Rattle.std.proofs.Common.{◌≡◌, ℕ, zero, suc, ◌+◌, ◌<◌, ◌≤◌, false, List, get_or, set, replicate, sym, refl, ap, ◌∙◌, inl, inr, arith, get_or-set_other, get_or-set_same}
+use Rattle.std.proofs.Common.{◌≡◌, ℕ, zero, suc, ◌+◌, ◌<◌, ◌≤◌, false, List, ◌++◌, length, get_or, set, replicate, sym, refl, ap, ◌∙◌, inl, inr, arith, get_or-set_other, get_or-set_same}
 use lib.ListN.{get_or-replicate, length-replicate}
+use Rattle.std.proofs.lemmas.List.{get_or_append_left}
 use Rattle.std.proofs.lemmas.Bool.{cases_eq, cases_lt}
 use Rattle.conflicts.proofs.Sums.{count_none}
 use Rattle.conflicts.proofs.Edges.{edges_none}
 use Rattle.cell_lists.specs.declared.cell.Cell.{Cell}
-use Rattle.cell_lists.specs.Chains.{View, along, holds, place}
-use Rattle.cell_lists.specs.Memory.{blank, view}
+use Rattle.cell_lists.specs.declared.chains.Chain.{Chain}
+use Rattle.cell_lists.specs.Chains.{Unused, View, along, holds, place}
+use Rattle.cell_lists.specs.Memory.{blank, no_cells, view_of}
 use Rattle.cell_lists.proofs.Standing.{holds_not}
 use Rattle.cell_lists.proofs.Whole.{Whole}
-
-pub record Unused (v : View) (m : ℕ) : Type 0 where
-  pub links : (i : ℕ) → i < m → v.next i ≡ i + 1
-  pub top : v.head 512 ≡ 0
-  pub free : v.count 512 ≡ m
-  pub rest : (x : ℕ) → (x ≡ 512 → ⊥) → v.count x ≡ 0
 
 along_all : (next : ℕ → ℕ) (m j : ℕ) → ((i : ℕ) → i < m → next i ≡ i + 1) → j ≤ m → along next 0 j ≡ j
 unfolding along
@@ -49,7 +45,7 @@ unused_whole v m b =
     let fr = b.free in
     record {
       ranged = λ x j l. let p = lies v m x j b l in let q = p.cell in let r = p.below in omega arith;
-      distinct = λ x j y k l r e. let p = lies v m x j b l in let q = lies v m y k b r in (p.chain ∙ sym q.chain, sym p.cell ∙ e ∙ q.cell);
+      disjoint = λ x j y k l r e. let p = lies v m x j b l in let q = lies v m y k b r in (p.chain ∙ sym q.chain, sym p.cell ∙ e ∙ q.cell);
       inside = λ x j lx lj. let p = (lies v m x j b lj).chain in absurd (omega arith);
       single = λ x j k lx lj lk e. let p = (lies v m x j b lj).chain in absurd (omega arith);
       symmetric = λ x y. none x y ∙ sym (none y x);
@@ -59,21 +55,24 @@ unused_whole v m b =
       counted = sym (edges_none (holds v) 512 none);
     }
 
--- ---- the arrays at the start
+-- ---- the chains at the start
 
-zero_past : (n x : ℕ) → n ≤ x → ◌≡◌ {A = ℕ} (get_or (replicate n 0) x 0) 0
-zero_past zero x h = refl
-zero_past (suc n) zero h = absurd (omega arith)
-zero_past (suc n) (suc x) h = zero_past n x (omega arith)
+none_past : (n x : ℕ) → n ≤ x → get_or (replicate n no_cells) x no_cells ≡ no_cells
+none_past zero x h = refl
+none_past (suc n) zero h = absurd (omega arith)
+none_past (suc n) (suc x) h = none_past n x (omega arith)
 
-zeros : (n x : ℕ) → ◌≡◌ {A = ℕ} (get_or (replicate n 0) x 0) 0
-zeros n x = elim (cases_lt x n) [ inl l ↦ get_or-replicate n x 0 0 l | inr g ↦ zero_past n x g ]
+none : (n x : ℕ) → get_or (replicate n no_cells) x no_cells ≡ no_cells
+none n x = elim (cases_lt x n) [ inl l ↦ get_or-replicate n x no_cells no_cells l | inr g ↦ none_past n x g ]
 
-pub unused : (cs : List Cell) (m : ℕ) → ((i : ℕ) → i < m → (get_or cs i blank).next ≡ i + 1)
-    → Unused (view cs (replicate 513 0) (set (replicate 513 0) 512 m)) m
-unused cs m h = record {
-  links = h;
-  top = zeros 513 512;
-  free = get_or-set_same (replicate 513 0) 512 m 0 (let e = length-replicate {A = ℕ} 513 0 in omega arith);
-  rest = λ x n. get_or-set_other (replicate 513 0) 512 x m 0 n ∙ zeros 513 x;
-}
+pub unused : (cs ds : List Cell) (m : ℕ) → length cs ≡ m → ((i : ℕ) → i < length cs → (get_or cs i blank).next ≡ i + 1)
+    → Unused (view_of (cs ++ ds) (set (replicate 513 no_cells) 512 (record { head = 0; len = m }))) m
+unused cs ds m e h =
+    let all : Chain = record { head = 0; len = m } in
+    let top = get_or-set_same (replicate 513 no_cells) 512 all no_cells (let l = length-replicate {A = Chain} 513 no_cells in omega arith) in
+    record {
+      links = λ i l. ap (λ (c : Cell). c.next) (get_or_append_left cs ds blank i (omega arith)) ∙ h i (omega arith);
+      top = ap (λ (c : Chain). c.head) top;
+      free = ap (λ (c : Chain). c.len) top;
+      rest = λ x n. ap (λ (c : Chain). c.len) (get_or-set_other (replicate 513 no_cells) 512 x all no_cells n ∙ none 513 x);
+    }

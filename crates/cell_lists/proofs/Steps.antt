@@ -25,7 +25,7 @@ pub second_move : (v u : View) (a b m n : ℕ) → Whole v m n → a < 512 → b
 second_move v u a b m n wh la lb d p mv =
     let da : 512 ≡ a → ⊥ = λ e. omega arith in
     let g = count_from v u 512 a b mv da in
-    let rg = moved_ranged v u 512 a b m mv wh.distinct wh.ranged da (omega arith) in
+    let rg = moved_ranged v u 512 a b m mv wh.disjoint wh.ranged da (omega arith) in
     let q : 0 < u.count 512 = omega arith in
     let h = count_else v u 512 a b b mv (λ e. d (sym e)) (λ e. omega arith) in
     let s = count_small v b wh.degrees lb in
@@ -44,8 +44,8 @@ second_cut v u a b c d m n wh la lb ne sa sb cv =
     let v1 = renamed v (place v a sa.k) (v.neighbour (v.head a)) in
     let wa = sa.within in
     let da : a ≡ 512 → ⊥ = λ e. omega arith in
-    let tb = stands_else v u a b sa.k a d mv wh.distinct wa la lb (λ e. ne (sym e)) sb in
-    let rg = moved_ranged v1 u a 512 0 m mv wh.distinct wh.ranged da (omega arith) in
+    let tb = stands_else v u a b sa.k a d mv wh.disjoint wa la lb (λ e. ne (sym e)) sb in
+    let rg = moved_ranged v1 u a 512 0 m mv wh.disjoint wh.ranged da (omega arith) in
     let wt = tb.within in
     let q : 0 < u.count b = omega arith in
     record { some = q; top = top_within u m b rg q; cell = stands_within u m b a d rg tb; free = count_to v1 u a 512 0 mv }

@@ -4,9 +4,9 @@ use Rattle.std.proofs.lemmas.Bool.Decides.{nat_tests}
 use Rattle.std.proofs.lemmas.Bool.{both_ways, ne_eqb}
 use Rattle.conflicts.specs.Graphs.{edge_count, joins}
 use Rattle.conflicts.proofs.Edges.{both_halves, edges_fewer, edges_more, joined_loopless, joined_symmetric, neither_half, parted_loopless, parted_symmetric}
-use Rattle.cell_lists.specs.Chains.{Cut, Degrees, Inside, Loopless, Moved, Ranged, Stands, Symmetric, View, holds, place, renamed}
-use Rattle.cell_lists.proofs.Places.{Distinct, count_else, count_from, count_to, moved_distinct, moved_ranged}
-use Rattle.cell_lists.proofs.Standing.{Unrepeated, stands_holds}
+use Rattle.cell_lists.specs.Chains.{Cut, Degrees, Disjoint, Inside, Loopless, Moved, Ranged, Single, Stands, Symmetric, View, holds, place, renamed}
+use Rattle.cell_lists.proofs.Places.{count_else, count_from, count_to, moved_disjoint, moved_ranged}
+use Rattle.cell_lists.proofs.Standing.{stands_holds}
 use Rattle.cell_lists.proofs.Adding.{holds_add, inside_add, single_add}
 use Rattle.cell_lists.proofs.Cutting.{cut_at, holds_cut, inside_cut, single_cut, stands_else}
 use Rattle.cell_lists.proofs.Degrees.{More, degrees_fewer, degrees_more}
@@ -14,9 +14,9 @@ use Rattle.cell_lists.proofs.Degrees.{More, degrees_fewer, degrees_more}
 -- chains over m cells that hold n pairs
 pub record Whole (v : View) (m n : ℕ) : Type 0 where
   pub ranged : Ranged v m
-  pub distinct : Distinct v
+  pub disjoint : Disjoint v
   pub inside : Inside v
-  pub single : Unrepeated v
+  pub single : Single v
   pub symmetric : Symmetric v
   pub loopless : Loopless v
   pub degrees : Degrees v
@@ -32,7 +32,7 @@ pub record Joined (v w : View) (a b m n : ℕ) : Type 0 where
 pub joined : (v u w : View) (a b m n : ℕ) → Whole v m n → Moved v u 512 a b → Moved u w 512 b a → 1 < v.count 512
     → a < 512 → b < 512 → (a ≡ b → ⊥) → holds v a b ≡ false → Joined v w a b m n
 joined v u w a b m n wh mv mu p la lb d h =
-    let ds = wh.distinct in
+    let ds = wh.disjoint in
     let sy = wh.symmetric in
     let p0 : 0 < v.count 512 = omega arith in
     let da : 512 ≡ a → ⊥ = λ e. omega arith in
@@ -40,7 +40,7 @@ joined v u w a b m n wh mv mu p la lb d h =
     let fu = count_from v u 512 a b mv da in
     let fw = count_from u w 512 b a mu db in
     let p1 : 0 < u.count 512 = omega arith in
-    let du = moved_distinct v u 512 a b mv ds da p0 in
+    let du = moved_disjoint v u 512 a b mv ds da p0 in
     let half : (x y : ℕ) → holds u x y ≡ (holds v x y || (eqb x a && eqb y b)) = holds_add v u a b mv ds p0 la lb in
     let after : (x y : ℕ) → holds w x y ≡ (holds v x y || joins a b x y) = λ x y.
     holds_add u w b a mu du p1 lb la x y
@@ -68,7 +68,7 @@ joined v u w a b m n wh mv mu p la lb d h =
       after = after;
       whole = record {
         ranged = moved_ranged u w 512 b a m mu du (moved_ranged v u 512 a b m mv ds wh.ranged da p0) db p1;
-        distinct = moved_distinct u w 512 b a mu du db p1;
+        disjoint = moved_disjoint u w 512 b a mu du db p1;
         inside = inside_add u w b a mu du p1 lb la (inside_add v u a b mv ds p0 la lb wh.inside);
         single = single_add u w b a mu du p1 lb la hu (single_add v u a b mv ds p0 la lb h wh.single);
         symmetric = joined_symmetric (holds v) (holds w) a b sy after;
@@ -89,7 +89,7 @@ pub record Parted (v w : View) (a b m n : ℕ) : Type 0 where
 pub parted : (v u w : View) (a b c d m n : ℕ) → Whole v m n → a < 512 → b < 512 → Stands v a b c → Stands v b a d
     → Cut v u a c → Cut u w b d → Parted v w a b m n
 parted v u w a b c d m n wh la lb sa sb cv cu =
-    let ds = wh.distinct in
+    let ds = wh.disjoint in
     let lo = wh.loopless in
     let sy = wh.symmetric in
     let wa = sa.within in
@@ -101,7 +101,7 @@ parted v u w a b c d m n wh la lb sa sb cv cu =
     let p0 : 0 < v.count a = omega arith in
     let da : a ≡ 512 → ⊥ = λ e. omega arith in
     let db : b ≡ 512 → ⊥ = λ e. omega arith in
-    let du = moved_distinct v1 u a 512 0 mv ds da p0 in
+    let du = moved_disjoint v1 u a 512 0 mv ds da p0 in
     let su = single_cut v u a sa.k mv ds wa la wh.single in
     let tb = stands_else v u a b sa.k a d mv ds wa la lb nf sb in
     let wt = tb.within in
@@ -135,7 +135,7 @@ parted v u w a b c d m n wh la lb sa sb cv cu =
       after = after;
       whole = record {
         ranged = moved_ranged u1 w b 512 0 m mu du (moved_ranged v1 u a 512 0 m mv ds wh.ranged da p0) db p1;
-        distinct = moved_distinct u1 w b 512 0 mu du db p1;
+        disjoint = moved_disjoint u1 w b 512 0 mu du db p1;
         inside = inside_cut u w b tb.k mu du wt lb (inside_cut v u a sa.k mv ds wa la wh.inside);
         single = single_cut u w b tb.k mu du wt lb su;
         symmetric = parted_symmetric (holds v) (holds w) a b sy after;

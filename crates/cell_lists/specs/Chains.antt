@@ -1,5 +1,5 @@
 -- Chains of cells: what they name, when a pair stands, and how a chain changes.
-use Rattle.std.specs.Prelude.{◌≡◌, ℕ, zero, suc, ◌+◌, ◌-◌, ◌<◌, Bool, true, false, cond, ◌&&◌, ◌||◌, Some, None, Option, ◌==◌, ◌≢◌, nat_eq, nat_lt}
+use Rattle.std.specs.Prelude.{◌≡◌, ℕ, zero, suc, ◌+◌, ◌-◌, ◌<◌, Bool, true, false, if◌then◌else◌, ◌&&◌, ◌||◌, Some, None, Option, ◌==◌, nat_eq, nat_lt}
 use Rattle.conflicts.specs.Graphs.{Graph, degree}
 
 -- a memory: the number that a cell names, and the cell after it; the top cell of a chain, and how many cells it has; chain 512 is the free chain
@@ -35,37 +35,17 @@ holds v x y = (nat_lt x 512 && nat_lt y 512) && some_below (λ j. nat_eq (named 
 abbrev pub Ranged : View → ℕ → Type 0
 Ranged v m = (x j : ℕ) → j < v.count x → place v x j < m
 
--- two places with the same cell
-pub record Meeting (v : View) : Type 0 where
-  pub x : ℕ
-  pub j : ℕ
-  pub y : ℕ
-  pub k : ℕ
-  pub first : j < v.count x
-  pub second : k < v.count y
-  pub meet : place v x j ≡ place v y k
-
 -- no cell stands twice, in one chain or in two
 abbrev pub Disjoint : View → Type 0
-Disjoint v = (t : Meeting v) → (t.x ≡ t.y) × (t.j ≡ t.k)
+Disjoint v = (x j y k : ℕ) → j < v.count x → k < v.count y → place v x j ≡ place v y k → (x ≡ y) × (j ≡ k)
 
 -- a number's chain names numbers below 512
 abbrev pub Inside : View → Type 0
 Inside v = (x j : ℕ) → x < 512 → j < v.count x → named v x j < 512
 
--- two places of a number's chain that name the same
-pub record Repeated (v : View) : Type 0 where
-  pub x : ℕ
-  pub j : ℕ
-  pub k : ℕ
-  pub below : x < 512
-  pub first : j < v.count x
-  pub second : k < v.count x
-  pub both : named v x j ≡ named v x k
-
 -- a number's chain names each neighbour once
 abbrev pub Single : View → Type 0
-Single v = (t : Repeated v) → t.j ≡ t.k
+Single v = (x j k : ℕ) → x < 512 → j < v.count x → k < v.count x → named v x j ≡ named v x k → j ≡ k
 
 -- a pair stands both ways
 abbrev pub Symmetric : View → Type 0
@@ -83,16 +63,23 @@ Bounded v = (x y : ℕ) → 511 < x → holds v x y ≡ false
 abbrev pub Degrees : View → Type 0
 Degrees v = (x : ℕ) → x < 512 → v.count x ≡ degree (holds v) x
 
+-- the first m cells are free, one after the other, and no other chain has a cell
+pub record Unused (v : View) (m : ℕ) : Type 0 where
+  pub links : (i : ℕ) → i < m → v.next i ≡ i + 1
+  pub top : v.head 512 ≡ 0
+  pub free : v.count 512 ≡ m
+  pub rest : (x : ℕ) → (x ≡ 512 → ⊥) → v.count x ≡ 0
+
 -- The top cell of the chain f has become the top cell of the chain t, and names b.
 pub record Moved (v w : View) (f t b : ℕ) : Type 0 where
-  pub neighbours : (i : ℕ) → w.neighbour i ≡ cond (i == v.head f) b (v.neighbour i)
-  pub links : (i : ℕ) → w.next i ≡ cond (i == v.head f) (v.head t) (v.next i)
-  pub heads : (x : ℕ) → w.head x ≡ cond (x == t) (v.head f) (cond (x == f) (v.next (v.head f)) (v.head x))
-  pub counts : (x : ℕ) → w.count x ≡ cond (x == t) (v.count t + 1) (cond (x == f) (v.count f - 1) (v.count x))
+  pub neighbours : (i : ℕ) → w.neighbour i ≡ (if i == v.head f then b else v.neighbour i)
+  pub links : (i : ℕ) → w.next i ≡ (if i == v.head f then v.head t else v.next i)
+  pub heads : (x : ℕ) → w.head x ≡ (if x == t then v.head f else if x == f then v.next (v.head f) else v.head x)
+  pub counts : (x : ℕ) → w.count x ≡ (if x == t then v.count t + 1 else if x == f then v.count f - 1 else v.count x)
 
 -- the memory in which the cell c names n
 abbrev pub renamed : View → ℕ → ℕ → View
-renamed v c n = record { neighbour = λ i. cond (i == c) n (v.neighbour i); next = v.next; head = v.head; count = v.count }
+renamed v c n = record { neighbour = λ i. if i == c then n else v.neighbour i; next = v.next; head = v.head; count = v.count }
 
 -- The cell c of the chain a names what the top cell named, and the top cell is free.
 abbrev pub Cut : View → View → ℕ → ℕ → Type 0
@@ -104,11 +91,6 @@ pub record Stands (v : View) (a b c : ℕ) : Type 0 where
   pub within : k < v.count a
   pub here : place v a k ≡ c
   pub names : named v a k ≡ b
-
--- the chain a was walked to a cell that names b, or to its end
-abbrev pub Walked : View → ℕ → ℕ → Option ℕ → Type 0
-Walked v a b (Some c) = Stands v a b c
-Walked v a b None = (k : ℕ) → k < v.count a → named v a k ≢ b
 
 -- the pair of a and b stands, at that cell, or it does not
 abbrev pub Located : View → ℕ → ℕ → Option ℕ → Type 0

@@ -1,3 +1,4 @@
 pub mod Chains
 pub mod Memory
+pub mod Walks
 pub mod Lists

@@ -3,22 +3,18 @@ use Rattle.std.specs.Prelude.{◌≡◌, ◌*◌, drop, refl}
 use Rattle.std.proofs.Common.{sym, ◌∙◌, ap}
 use Rattle.conflicts.specs.Graphs.{Graph}
 use Rattle.cell_lists.specs.declared.lists.CellLists.{CellLists}
-use Rattle.cell_lists.specs.Chains.{View, holds}
+use Rattle.cell_lists.specs.Chains.{holds}
 use Rattle.cell_lists.specs.Memory.{view}
-
--- what the lists' cells, heads and counts hold
-abbrev pub memory : CellLists → View
-memory l = view l.cells.now l.heads l.counts
 
 -- the pairs that stand
 abbrev pub standing : CellLists → Graph
-standing l = holds (memory l)
+standing l = holds (view l.memory)
 
 -- g stands on the cells of f, has its capacity, and the cells past twice the capacity are as they were
 pub record Framed (f g : CellLists) : Type 0 where
-  pub same_cells : g.cells.ghost_name ≡ f.cells.ghost_name
+  pub same_cells : g.memory.cells.ghost_name ≡ f.memory.cells.ghost_name
   pub same_capacity : g.capacity ≡ f.capacity
-  pub beyond : drop (2 * f.capacity) g.cells.now ≡ drop (2 * f.capacity) f.cells.now
+  pub beyond : drop (2 * f.capacity) g.memory.cells.now ≡ drop (2 * f.capacity) f.memory.cells.now
 
 -- the frame holds where nothing has changed
 pub framed_same : (l : CellLists) → Framed l l
@@ -30,8 +26,8 @@ framed_on f g h p q = record {
   same_cells = q.same_cells ∙ p.same_cells;
   same_capacity = q.same_capacity ∙ p.same_capacity;
   beyond =
-      ap (λ n. drop (2 * n) h.cells.now) (sym p.same_capacity)
+      ap (λ n. drop (2 * n) h.memory.cells.now) (sym p.same_capacity)
       ∙ q.beyond
-      ∙ ap (λ n. drop (2 * n) g.cells.now) p.same_capacity
+      ∙ ap (λ n. drop (2 * n) g.memory.cells.now) p.same_capacity
       ∙ p.beyond;
 }

@@ -33,36 +33,30 @@ impl ConflictGraph for CellLists<'_> {
     }
 
     fn contains(&self, a: u32, b: u32) -> Result<bool, Fault> {
-        LiftNumber::new(a, Layer::Book)?;
-        LiftNumber::new(b, Layer::Book)?;
+        let a = LiftNumber::new(a, Layer::Book)?;
+        let b = LiftNumber::new(b, Layer::Book)?;
         Ok(self.find(a, b).is_some())
     }
 
     fn degree(&self, a: u32) -> Result<u32, Fault> {
-        LiftNumber::new(a, Layer::Book)?;
-        Ok(self.counts[a as usize])
+        let a = LiftNumber::new(a, Layer::Book)?;
+        Ok(self.memory.chains[a.get() as usize].len)
     }
 
     fn next_neighbour(&self, a: u32, from: u32) -> Result<Option<u32>, Fault> {
-        LiftNumber::new(a, Layer::Book)?;
+        let a = LiftNumber::new(a, Layer::Book)?;
         Ok(self.smallest_from(a, from))
     }
 
     fn insert(&mut self, a: u32, b: u32) -> Result<(), Fault> {
-        LiftPair::new(a, b, Layer::Book)?;
-        if self.find(a, b).is_some() {
-            return Err(Fault::about(Refusal::ClashStands, Layer::Book, a));
-        }
-        if self.is_full() {
-            return Err(Fault::about(Refusal::GraphFull, Layer::Book, a));
-        }
-        self.join(a, b);
+        let pair = self.check_insert(a, b)?;
+        self.join(pair);
         Ok(())
     }
 
     fn remove(&mut self, a: u32, b: u32) -> Result<(), Fault> {
-        LiftPair::new(a, b, Layer::Book)?;
-        if !self.part(a, b) {
+        let pair = LiftPair::new(a, b, Layer::Book)?;
+        if !self.part(pair.first(), pair.second()) {
             return Err(Fault::about(Refusal::NoSuchClash, Layer::Book, a));
         }
         Ok(())
@@ -70,7 +64,7 @@ impl ConflictGraph for CellLists<'_> {
 
     // Only the chains of `a` and of its neighbours are walked.
     fn isolate(&mut self, a: u32) -> Result<(), Fault> {
-        LiftNumber::new(a, Layer::Book)?;
+        let a = LiftNumber::new(a, Layer::Book)?;
         self.clear(a);
         Ok(())
     }

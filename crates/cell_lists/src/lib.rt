@@ -5,6 +5,7 @@ pub mod cell;
 mod chains;
 pub mod graph;
 pub mod lists;
+mod neighbours;
 mod pairs;
 mod setup;
 

@@ -1,7 +1,7 @@
 // Checks a change file: reads it from standard input and writes a row for each line that no board could take.
 #![tactic(auto)]
 
-ghost use Rattle.std.specs.Prelude.{◌≡◌, ◌≤◌, length, OnOk};
+ghost use Rattle.std.specs.Prelude.{◌≡◌, OnOk};
 
 use lifts::Fault;
 use rows::Cursor;
@@ -12,77 +12,82 @@ use validator::{Summary, Validator, has_room, write_header};
 
 const BLOCK: usize = 65536;
 
-fn flush(out: &[u8], cursor: &mut Cursor, to: &mut Stdout) -> io::Result<()>
-    ensures { OnOk result (cursor.new.end ≡ 0) }
-{
-    to.write_all(cursor.text(out))?;
-    cursor.clear();
-    Ok(())
+// The rows that wait to be written to standard output.
+#[derive(Drop)]
+struct Report {
+    bytes: [u8; BLOCK],
+    cursor: Cursor,
+    to: Stdout,
 }
 
-fn in_room(written: Result<(), Fault>) -> io::Result<()> {
-    match written {
-        Ok(()) => Ok(()),
-        Err(_) => Err(io::Error::other("no room for a row")),
-    }
-}
-
-// Gives the validator a block of the file, and writes rows out when they fill their room.
-fn feed(
-    validator: &mut Validator,
-    block: &[u8],
-    out: &mut [u8],
-    cursor: &mut Cursor,
-    to: &mut Stdout,
-) -> io::Result<()>
-    requires { 64 ≤ length out.old }
-{
-    let mut at = 0;
-    while at < block.len() && !validator.is_done() {
-        if !has_room(out, cursor) {
-            flush(out, cursor, to)?;
+impl Report {
+    fn new(to: Stdout) -> Report {
+        Report {
+            bytes: [0; BLOCK],
+            cursor: Cursor::new(),
+            to,
         }
-        at = validator.advance(block, at, out, cursor);
     }
-    Ok(())
+
+    fn flush(&mut self) -> io::Result<()>
+        ensures { OnOk result (self.new.cursor.end ≡ 0) }
+    {
+        self.to.write_all(self.cursor.text(&self.bytes))?;
+        self.cursor.clear();
+        Ok(())
+    }
+
+    fn begin(&mut self) -> Result<(), Fault> {
+        write_header(&mut self.bytes, &mut self.cursor)
+    }
+
+    // Gives the validator a block of the file, and writes rows out when they fill their room.
+    fn feed(&mut self, validator: &mut Validator, block: &[u8]) -> io::Result<()> {
+        let mut at = 0;
+        while at < block.len() && !validator.is_done() {
+            if !has_room(&self.bytes, &self.cursor) {
+                self.flush()?;
+            }
+            at = validator.advance(block, at, &mut self.bytes, &mut self.cursor);
+        }
+        Ok(())
+    }
+
+    fn finish(&mut self, validator: &mut Validator) -> anyhow::Result<()> {
+        self.flush()?;
+        validator.finish(&mut self.bytes, &mut self.cursor)?;
+        self.flush()?;
+        Ok(())
+    }
 }
 
-fn check(from: &mut Stdin, block: &mut [u8], out: &mut [u8], to: &mut Stdout) -> io::Result<Summary>
-    requires { 64 ≤ length out.old }
-{
+fn check(from: &mut Stdin, report: &mut Report) -> anyhow::Result<Summary> {
     let mut validator = Validator::new();
-    let mut cursor = Cursor::new();
-    in_room(write_header(out, &mut cursor))?;
+    let mut block = [0; BLOCK];
+    report.begin()?;
     for _ in 0..u64::MAX {
         if validator.is_done() {
             break;
         }
-        match from.read(block) {
+        match from.read(&mut block) {
             Ok(0) => break,
-            Ok(n) => feed(&mut validator, &block[0..n], out, &mut cursor, to)?,
-            Err(e) => {
-                if e.kind() != io::ErrorKind::Interrupted {
-                    return Err(e);
-                }
-            }
+            Ok(n) => report.feed(&mut validator, &block[..n])?,
+            Err(e) if e.kind() == io::ErrorKind::Interrupted => {}
+            Err(e) => return Err(e.into()),
         }
     }
-    flush(out, &mut cursor, to)?;
-    in_room(validator.finish(out, &mut cursor))?;
-    flush(out, &mut cursor, to)?;
+    report.finish(&mut validator)?;
     Ok(validator.summary())
 }
 
-fn run(rt: &HostRuntime) -> io::Result<()> {
-    let mut from = rt.stdin();
-    let mut to = rt.stdout();
-    let mut block = [0u8; BLOCK];
-    let mut out = [0u8; BLOCK];
-    let summary = check(&mut from, &mut block, &mut out, &mut to)?;
-    let read = summary.read;
-    let well_formed = summary.well_formed;
-    let refused = summary.refused;
-    eprintln!(rt; "lines read: {read}, well formed: {well_formed}, refused: {refused}")
+fn run(rt: &HostRuntime) -> anyhow::Result<()> {
+    let mut report = Report::new(rt.stdout());
+    let summary = check(&mut rt.stdin(), &mut report)?;
+    eprintln!(rt;
+        "lines read: {}, well formed: {}, refused: {}",
+        summary.read, summary.well_formed, summary.refused
+    )?;
+    Ok(())
 }
 
 // A run that fails has said why: a returned error would be printed once more.

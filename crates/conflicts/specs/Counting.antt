@@ -1,5 +1,5 @@
 -- Sums and counts over the numbers below a bound.
-use Rattle.std.specs.Prelude.{ℕ, zero, suc, ◌+◌, Bool, cond}
+use Rattle.std.specs.Prelude.{ℕ, zero, suc, ◌+◌, Bool, if◌then◌else◌}
 
 -- f at each number below n, added up
 unfoldable pub sum : (ℕ → ℕ) → ℕ → ℕ
@@ -7,7 +7,7 @@ sum f zero = 0
 sum f (suc n) = sum f n + f n
 
 abbrev pub bit : Bool → ℕ
-bit b = cond b 1 0
+bit b = if b then 1 else 0
 
 -- how many numbers below n pass the test
 abbrev pub count : (ℕ → Bool) → ℕ → ℕ

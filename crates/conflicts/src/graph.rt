@@ -1,11 +1,11 @@
 // A conflict graph: a set of unordered pairs of two different numbers below 512, and a capacity.
-ghost use Rattle.std.specs.Prelude.{◌≡◌, ℕ, ◌<◌, ◌≤◌, Bool, true, false, not, ◌&&◌, ◌||◌, Some, None, Ok, Err};
+ghost use Rattle.std.specs.Prelude.{◌≡◌, ℕ, ◌<◌, ◌≤◌, Bool, true, false, not, ◌&&◌, ◌||◌, Some, None, Ok, Err, IfOk, IfErr};
 ghost use Rattle.lifts.specs.Faults.{number_refusal, unless_refused};
 ghost use Rattle.lifts.specs.declared.fault.Layer.TheVariants.{Book};
 ghost use Rattle.conflicts.specs.Graphs.{Below, SmallestFrom, degree, edge_count, joins, touches};
 ghost use Rattle.conflicts.specs.Refusals.{insert_refusal, numbers_refusal, remove_refusal};
 
-use lifts::Fault;
+use lifts::{Fault, Layer, LiftPair, Refusal};
 
 pub trait ConflictGraph {
     // the set of pairs that the graph means: whether two numbers are neighbours
@@ -49,6 +49,33 @@ pub trait ConflictGraph {
           | Ok next ↦ (number_refusal Book a ≡ None) × SmallestFrom (adjacent self.now a) from next × Below 512 next
           | Err f ↦ number_refusal Book a ≡ Some f
         ] };
+
+    // What refuses the pair to `insert`, if anything does.
+    fn check_insert(&self, a: u32, b: u32) -> Result<LiftPair, Fault>
+        ensures taken { IfOk result (λ pair. (insert_refusal (adjacent self.now) (limit self.now) a b ≡ None) × (pair.first.value ≡ a) × (pair.second.value ≡ b)) }
+        ensures refused { IfErr result (λ fault. insert_refusal (adjacent self.now) (limit self.now) a b ≡ Some fault) }
+    {
+        let pair = LiftPair::new(a, b, Layer::Book)?;
+        if self.contains(a, b)? {
+            return Err(Fault::about(Refusal::ClashStands, Layer::Book, a));
+        }
+        if self.edge_count() >= self.capacity() {
+            return Err(Fault::about(Refusal::GraphFull, Layer::Book, a));
+        }
+        Ok(pair)
+    }
+
+    // What refuses the pair to `remove`, if anything does.
+    fn check_remove(&self, a: u32, b: u32) -> Result<LiftPair, Fault>
+        ensures taken { IfOk result (λ pair. (remove_refusal (adjacent self.now) a b ≡ None) × (pair.first.value ≡ a) × (pair.second.value ≡ b)) }
+        ensures refused { IfErr result (λ fault. remove_refusal (adjacent self.now) a b ≡ Some fault) }
+    {
+        let pair = LiftPair::new(a, b, Layer::Book)?;
+        if !self.contains(a, b)? {
+            return Err(Fault::about(Refusal::NoSuchClash, Layer::Book, a));
+        }
+        Ok(pair)
+    }
 
     fn insert(&mut self, a: u32, b: u32) -> Result<(), Fault>
         ensures verdict { result ≡ unless_refused (insert_refusal (adjacent self.old) (limit self.old) a b) tt }

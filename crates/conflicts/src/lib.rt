@@ -3,5 +3,7 @@
 
 pub mod graph;
 pub mod laws;
+pub mod memory;
 
 pub use graph::ConflictGraph;
+pub use memory::check_memory;

@@ -1,6 +1,7 @@
 -- What a line buffer holds of the line that is being read.
-use Rattle.std.specs.Prelude.{◌≡◌, ℕ, Bool, true, false, cond, ◌&&◌, List, [], ◌∷◌, ◌++◌, take, ◌==◌}
+use Rattle.std.specs.Prelude.{◌≡◌, ℕ, Bool, true, false, if◌then◌else◌, ◌&&◌, List, [], ◌∷◌, ◌++◌, take, ◌==◌}
 use Rattle.framing.specs.Lines.{line_end, unbroken}
+use Rattle.framing.specs.declared.LineBuffer.{LineBuffer}
 
 -- A CR that is held back.
 abbrev pub held : Bool → List ℕ
@@ -8,8 +9,8 @@ held true = 13 ∷ []
 held false = []
 
 -- Of a line's body the first 65 bytes are kept.
-abbrev pub Keeps : List ℕ → ℕ → List ℕ → Type 0
-Keeps bytes len body = take len bytes ≡ take 65 body
+abbrev pub Keeps : LineBuffer → List ℕ → Type 0
+Keeps buffer body = buffer.bytes.items ≡ take 65 body
 
 -- The line ends with this byte.
 abbrev pub ends : Bool → ℕ → Bool
@@ -17,7 +18,7 @@ ends cr b = cr && b == 10
 
 -- The body with this byte: a CR is held back, and one that was held back belongs to the body unless the line ends.
 abbrev pub body_after : Bool → ℕ → List ℕ → List ℕ
-body_after cr b body = cond (ends cr b) body ((body ++ held cr) ++ cond (b == 13) [] (b ∷ []))
+body_after cr b body = if ends cr b then body else (body ++ held cr) ++ (if b == 13 then [] else b ∷ [])
 
 abbrev pub ends_in_cr : List ℕ → Bool
 ends_in_cr [] = false
@@ -25,17 +26,23 @@ ends_in_cr (x ∷ []) = x == 13
 ends_in_cr (x ∷ y ∷ xs) = ends_in_cr (y ∷ xs)
 
 -- The bytes `xs` came since the last line's end: they are kept, but for a CR at their end, which is held back.
-pub record Opens (bytes : List ℕ) (len : ℕ) (cr : Bool) (xs : List ℕ) : Type 0 where
+pub record Opens (buffer : LineBuffer) (xs : List ℕ) : Type 0 where
   pub body : List ℕ
-  pub keeps : Keeps bytes len body
-  pub split : xs ≡ body ++ held cr
-  pub last : ends_in_cr xs ≡ cr
+  pub keeps : Keeps buffer body
+  pub split : xs ≡ body ++ held buffer.cr
+  pub last : ends_in_cr xs ≡ buffer.cr
   pub xs_unbroken : unbroken xs ≡ true
 
 -- The bytes `xs` are a line with its CRLF, and its body is kept.
-pub record Ended (bytes : List ℕ) (len : ℕ) (cr : Bool) (xs : List ℕ) : Type 0 where
+pub record Ended (buffer : LineBuffer) (xs : List ℕ) : Type 0 where
   pub body : List ℕ
-  pub keeps : Keeps bytes len body
+  pub keeps : Keeps buffer body
   pub split : xs ≡ body ++ line_end
-  pub none_held : cr ≡ false
+  pub none_held : buffer.cr ≡ false
   pub body_unbroken : unbroken body ≡ true
+
+-- The front of `bytes` came in, and `rest` of them is left.
+pub record Takes (before after : LineBuffer) (bytes rest : List ℕ) : Type 0 where
+  pub taken : List ℕ
+  pub parts : bytes ≡ taken ++ rest
+  pub line : (xs : List ℕ) → Opens before xs → Opens after (xs ++ taken)

@@ -2,7 +2,7 @@
 use super::survey::walk;
 use bit_matrix::BitMatrix;
 use cell_lists::{Cell, CellLists};
-use conflicts::ConflictGraph;
+use conflicts::{ConflictGraph, check_memory};
 use lifts::{Fault, Layer, Refusal};
 use std::process::Abort;
 
@@ -59,6 +59,23 @@ fn refusals_in_order<G: ConflictGraph>(rt: &impl Abort, graph: &mut G) {
     assert_eq!(rt; graph.edge_count(), 3);
 }
 
+// What the changes would be refused with, and nothing is changed.
+fn checks_before_changes<G: ConflictGraph>(rt: &impl Abort, graph: &G) {
+    let large = Some(refused(Refusal::NumberTooLarge, 512));
+    assert_eq!(rt; graph.check_insert(512, 0).err(), large);
+    assert_eq!(rt;
+        graph.check_insert(63, 0).err(),
+        Some(refused(Refusal::ClashStands, 63))
+    );
+    assert!(rt; graph.check_remove(63, 0).is_ok());
+    assert_eq!(rt; graph.check_remove(512, 0).err(), large);
+    assert_eq!(rt;
+        graph.check_remove(63, 64).err(),
+        Some(refused(Refusal::NoSuchClash, 63))
+    );
+    assert_eq!(rt; graph.edge_count(), 3);
+}
+
 fn questions_past_the_end<G: ConflictGraph>(rt: &impl Abort, graph: &G) {
     let fault = refused(Refusal::NumberTooLarge, 512);
     assert_eq!(rt; graph.degree(512), Err(fault));
@@ -70,6 +87,7 @@ fn questions_past_the_end<G: ConflictGraph>(rt: &impl Abort, graph: &G) {
 
 fn removed_and_isolated<G: ConflictGraph>(rt: &impl Abort, graph: &mut G) {
     assert_eq!(rt; graph.remove(63, 0), Ok(()));
+    assert!(rt; graph.check_insert(63, 0).is_ok());
     assert_eq!(rt; graph.remove(63, 0), Err(refused(Refusal::NoSuchClash, 63)));
     assert_eq!(rt; graph.insert(64, 511), Ok(()));
     assert_eq!(rt; graph.isolate(0), Ok(()));
@@ -84,6 +102,7 @@ fn at_the_edges<G: ConflictGraph>(rt: &impl Abort, graph: &mut G) {
     numbers_at_the_edges(rt, graph);
     smallest_neighbours(rt, graph);
     refusals_in_order(rt, graph);
+    checks_before_changes(rt, graph);
     questions_past_the_end(rt, graph);
     removed_and_isolated(rt, graph);
 }
@@ -109,6 +128,10 @@ fn of_capacity_0<G: ConflictGraph>(rt: &impl Abort, graph: &mut G) {
     assert_eq!(rt; graph.capacity(), 0);
     assert_eq!(rt; graph.edge_count(), 0);
     assert_eq!(rt; graph.insert(0, 511), Err(refused(Refusal::GraphFull, 0)));
+    assert_eq!(rt;
+        graph.check_insert(0, 511).err(),
+        Some(refused(Refusal::GraphFull, 0))
+    );
     assert_eq!(rt; graph.insert(0, 0), Err(refused(Refusal::SameLiftTwice, 0)));
     assert_eq!(rt;
         graph.remove(511, 0),
@@ -118,6 +141,13 @@ fn of_capacity_0<G: ConflictGraph>(rt: &impl Abort, graph: &mut G) {
     assert_eq!(rt; graph.degree(511), Ok(0));
     assert_eq!(rt; graph.next_neighbour(0, 0), Ok(None));
     assert_eq!(rt; graph.isolate(3), Ok(()));
+}
+
+#[test]
+fn memory_by_its_units(rt: HostRuntime) {
+    assert_eq!(rt; check_memory(4095, 4096), Err(too_little()));
+    assert_eq!(rt; check_memory(4096, 4096), Ok(()));
+    assert_eq!(rt; check_memory(0, 0), Ok(()));
 }
 
 #[test]

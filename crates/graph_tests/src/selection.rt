@@ -12,12 +12,12 @@ pub fn first_of<P: Precedence>(order: &P, lifts: &[Lift]) -> Option<usize>
       | None ↦ length lifts.now ≡ 0
     ] }
 {
-    if lifts.len() == 0 {
+    if lifts.is_empty() {
         return None;
     }
     let mut first = 0;
-    for i in 0..lifts.len() {
-        if order.before(lifts[i], lifts[first]) {
+    for (i, lift) in lifts.iter().enumerate() {
+        if order.before(*lift, lifts[first]) {
             first = i;
         }
     }
@@ -45,9 +45,7 @@ fn tell_first<P: Precedence>(rt: &HostRuntime, order: &P, lifts: &[Lift]) -> any
 }
 
 pub fn tell_orders(rt: &HostRuntime) -> anyhow::Result<()> {
-    let Ok(lifts) = four_lifts() else {
-        return Ok(());
-    };
+    let lifts = four_lifts()?;
     print!(rt; "first by number:")?;
     tell_first(rt, &ByNumber, &lifts)?;
     print!(rt; "first by due:")?;

@@ -9,6 +9,7 @@ use super::selection::RANKS;
 use conflicts::ConflictGraph;
 use lifts::{Fault, Lift};
 use precedence::{ByClass, ByDue, ByNumber, Precedence};
+use std::fmt;
 
 // Some of these are refused: a pair twice, turned, of one number, or with a number that is too large.
 const PAIRS: [(u32, u32); 16] = [
@@ -37,10 +38,7 @@ fn offer<G: ConflictGraph>(graph: &mut G, a: u32, b: u32) -> bool
     ensures fixed { G.ConflictGraph.limit graph.new ≡ G.ConflictGraph.limit graph.old }
     ensures frame { G.ConflictGraph.framed graph.old graph.new }
 {
-    match graph.insert(a, b) {
-        Ok(()) => true,
-        Err(_) => false,
-    }
+    graph.insert(a, b).is_ok()
 }
 
 // Inserts each pair, goes on past the refused ones, and says how many were taken.
@@ -51,11 +49,8 @@ pub fn fill<G: ConflictGraph>(graph: &mut G, pairs: &[(u32, u32)]) -> usize
     ensures frame { G.ConflictGraph.framed graph.old graph.new }
 {
     let mut taken = 0;
-    for pair in pairs {
-        let (a, b) = *pair;
-        if offer(graph, a, b) {
-            taken += 1;
-        }
+    for &(a, b) in pairs {
+        taken += usize::from(offer(graph, a, b));
     }
     taken
 }
@@ -105,9 +100,20 @@ pub fn first_by<G: ConflictGraph, P: Precedence>(
         };
         from = b + 1;
     }
-    match first {
-        Some(lift) => Ok(Some(lift.number().get())),
-        None => Ok(None),
+    Ok(first.map(|lift| lift.number().get()))
+}
+
+// A number in a row, where it was asked for and is there.
+#[derive(Clone, Copy)]
+struct Told(Result<Option<u32>, Fault>);
+
+impl fmt::Display for Told {
+    fn fmt<W: fmt::Write>(&self, f: &mut fmt::Formatter<W>) -> fmt::Result {
+        match self.0 {
+            Ok(Some(number)) => write!(f, "{number}"),
+            Ok(None) => f.write_str("none"),
+            Err(_) => f.write_str("refused"),
+        }
     }
 }
 
@@ -123,23 +129,11 @@ fn tell<G: ConflictGraph>(rt: &HostRuntime, graph: &G, a: u32) -> anyhow::Result
     }
     print!(rt; "{a}: degree {count}, neighbours")?;
     tell_neighbours(rt, graph, a)?;
-    print!(rt; "; walked")?;
-    tell_count(rt, walk(graph, a))?;
-    print!(rt; "; first by number")?;
-    tell_first(rt, first_by(graph, &ByNumber, a))?;
-    print!(rt; ", by due")?;
-    tell_first(rt, first_by(graph, &ByDue, a))?;
-    print!(rt; ", by class")?;
-    tell_first(rt, first_by(graph, &ByClass::new(RANKS), a))?;
-    println!(rt; "")?;
-    Ok(())
-}
-
-fn tell_count(rt: &HostRuntime, count: Result<u32, Fault>) -> anyhow::Result<()> {
-    match count {
-        Ok(count) => print!(rt; " {count}")?,
-        Err(_) => print!(rt; " refused")?,
-    }
+    let walked = Told(walk(graph, a).map(Some));
+    let number = Told(first_by(graph, &ByNumber, a));
+    let due = Told(first_by(graph, &ByDue, a));
+    let class = Told(first_by(graph, &ByClass::new(RANKS), a));
+    println!(rt; "; walked {walked}; first by number {number}, by due {due}, by class {class}")?;
     Ok(())
 }
 
@@ -148,15 +142,6 @@ fn tell_neighbours<G: ConflictGraph>(rt: &HostRuntime, graph: &G, a: u32) -> any
         if let Ok(true) = graph.contains(a, b) {
             print!(rt; " {b}")?;
         }
-    }
-    Ok(())
-}
-
-fn tell_first(rt: &HostRuntime, first: Result<Option<u32>, Fault>) -> anyhow::Result<()> {
-    match first {
-        Ok(Some(number)) => print!(rt; " {number}")?,
-        Ok(None) => print!(rt; " none")?,
-        Err(_) => print!(rt; " refused")?,
     }
     Ok(())
 }

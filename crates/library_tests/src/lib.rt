@@ -13,3 +13,11 @@ mod of_lists;
 mod of_rows;
 #[cfg(test)]
 mod of_validator;
+
+#[cfg(test)]
+use lifts::{Fault, Layer, Refusal};
+
+#[cfg(test)]
+fn board_fault(refusal: Refusal, lift: u32) -> Fault {
+    Fault::about(refusal, Layer::Board, lift)
+}

@@ -1,48 +1,41 @@
 // Lines out of bytes that come in two blocks.
 use framing::LineBuffer;
 use std::process::Abort;
+use std::slice::Iter;
 use std::test::Fail;
 
-fn line_is(
-    rt: &impl Abort,
-    buffer: &LineBuffer,
-    expected: &[&[u8]],
-    number: usize,
-) -> Result<(), Fail> {
-    let line = expected.get(number).ok_or("a line too many")?;
+fn line_is(rt: &impl Abort, buffer: &LineBuffer, expected: Option<&&[u8]>) -> Result<(), Fail> {
+    let line = expected.ok_or("a line too many")?;
     assert_eq!(rt; buffer.get(), *line);
     Ok(())
 }
 
-// Holds the lines that end in the block to those expected from a number on, and answers the number after them.
+// Holds the lines that end in the block to the next of those expected.
 fn take_block(
     rt: &impl Abort,
     buffer: &mut LineBuffer,
     block: &[u8],
-    expected: &[&[u8]],
-    from: usize,
-) -> Result<usize, Fail> {
-    let mut number = from;
+    expected: &mut Iter<'_, &[u8]>,
+) -> Result<(), Fail> {
     let mut at = 0;
     while let Some(next) = buffer.take_line(block, at) {
         at = next;
-        line_is(rt, buffer, expected, number)?;
-        number = number.saturating_add(1);
+        line_is(rt, buffer, expected.next())?;
         buffer.clear();
     }
-    Ok(number)
+    Ok(())
 }
 
-fn lines_are(rt: &impl Abort, first: &[u8], second: &[u8], expected: &[&[u8]]) -> Result<(), Fail> {
+fn lines_are(rt: &impl Abort, first: &[u8], second: &[u8], lines: &[&[u8]]) -> Result<(), Fail> {
     let mut buffer = LineBuffer::new();
-    let mut number = take_block(rt, &mut buffer, first, expected, 0)?;
-    number = take_block(rt, &mut buffer, second, expected, number)?;
+    let mut expected = lines.iter();
+    take_block(rt, &mut buffer, first, &mut expected)?;
+    take_block(rt, &mut buffer, second, &mut expected)?;
     if buffer.is_open() {
         buffer.end();
-        line_is(rt, &buffer, expected, number)?;
-        number = number.saturating_add(1);
+        line_is(rt, &buffer, expected.next())?;
     }
-    assert_eq!(rt; number, expected.len());
+    assert!(rt; expected.next().is_none());
     Ok(())
 }
 

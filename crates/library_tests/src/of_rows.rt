@@ -10,8 +10,8 @@ struct Spelling {
     text: &'static [u8],
 }
 
-fn text_full() -> Result<(), Fault> {
-    Err(Fault::without_lift(Refusal::TextFull, Layer::File))
+fn text_full() -> Fault {
+    Fault::without_lift(Refusal::TextFull, Layer::File)
 }
 
 #[test]
@@ -81,7 +81,8 @@ fn every_kind_of_field(rt: HostRuntime) -> Result<(), Fail> {
 #[derive(Clone, Copy)]
 struct Room {
     size: usize,
-    fits: bool,
+    // where the text ends with the row, if that fits
+    end: Option<usize>,
     after: &'static [u8],
 }
 
@@ -91,8 +92,8 @@ fn try_room(rt: &impl Abort, room: Room, bytes: &mut [u8]) {
     let mut cursor = Cursor::new();
     let fields = [Field::Number(7), Field::State(State::Held), Field::Empty];
     let answer = write_row(&mut bytes[0..size], &mut cursor, &fields);
-    assert_eq!(rt; answer, if room.fits { Ok(()) } else { text_full() });
-    assert_eq!(rt; cursor.len(), if room.fits { 9 } else { 0 });
+    assert_eq!(rt; answer, room.end.map(|_| ()).ok_or(text_full()));
+    assert_eq!(rt; cursor.len(), room.end.unwrap_or(0));
     assert_eq!(rt; &bytes[0..], room.after);
 }
 
@@ -101,42 +102,42 @@ fn rows_that_fit_and_do_not(rt: HostRuntime) {
     let rooms = [
         Room {
             size: 0,
-            fits: false,
+            end: None,
             after: b"..........",
         },
         Room {
             size: 1,
-            fits: false,
+            end: None,
             after: b"7.........",
         },
         Room {
             size: 5,
-            fits: false,
+            end: None,
             after: b"7.........",
         },
         Room {
             size: 6,
-            fits: false,
+            end: None,
             after: b"7,held....",
         },
         Room {
             size: 7,
-            fits: false,
+            end: None,
             after: b"7,held,...",
         },
         Room {
             size: 8,
-            fits: false,
+            end: None,
             after: b"7,held,...",
         },
         Room {
             size: 9,
-            fits: true,
+            end: Some(9),
             after: b"7,held,\r\n.",
         },
         Room {
             size: 10,
-            fits: true,
+            end: Some(9),
             after: b"7,held,\r\n.",
         },
     ];
@@ -152,10 +153,10 @@ fn a_shorter_field_after_a_refused_one(rt: HostRuntime) -> Result<(), Fail> {
     {
         let mut row = cursor.begin_row(&mut bytes);
         row.put(Field::Number(12345))?;
-        assert_eq!(rt; row.put(Field::Number(6)), text_full());
+        assert_eq!(rt; row.put(Field::Number(6)), Err(text_full()));
         row.put(Field::Empty)?;
-        assert_eq!(rt; row.put(Field::Empty), text_full());
-        assert_eq!(rt; row.finish(), text_full());
+        assert_eq!(rt; row.put(Field::Empty), Err(text_full()));
+        assert_eq!(rt; row.finish(), Err(text_full()));
     }
     assert_eq!(rt; cursor.len(), 0);
     assert_eq!(rt; &bytes, b"12345,");
@@ -199,8 +200,8 @@ fn an_end_beyond_the_bytes(rt: HostRuntime) -> Result<(), Fail> {
     let mut fewer = [b'.'; 3];
     {
         let mut row = cursor.begin_row(&mut fewer);
-        assert_eq!(rt; row.put(Field::Empty), text_full());
-        assert_eq!(rt; row.finish(), text_full());
+        assert_eq!(rt; row.put(Field::Empty), Err(text_full()));
+        assert_eq!(rt; row.finish(), Err(text_full()));
     }
     assert_eq!(rt; cursor.len(), 4);
     assert_eq!(rt; &fewer, b"...");

@@ -1,44 +1,41 @@
 // Lines that no board could take, and whole reports.
+use super::board_fault;
 use lifts::{Fault, Layer, Refusal};
 use rows::Cursor;
 use std::process::Abort;
 use std::test::Fail;
 use validator::{Summary, Validator, check_line, write_header};
 
-fn board_fault(refusal: Refusal, lift: u32) -> Result<(), Fault> {
-    Err(Fault::about(refusal, Layer::Board, lift))
-}
-
 #[test]
 fn lines_no_board_takes(rt: HostRuntime) {
     assert_eq!(rt; check_line(2, b"enter,511,10079,15"), Ok(()));
     assert_eq!(rt;
         check_line(2, b"enter,512,10080,16"),
-        board_fault(Refusal::NumberTooLarge, 512)
+        Err(board_fault(Refusal::NumberTooLarge, 512))
     );
     assert_eq!(rt;
         check_line(2, b"enter,511,10080,0"),
-        board_fault(Refusal::DueOrClassTooLarge, 511)
+        Err(board_fault(Refusal::DueOrClassTooLarge, 511))
     );
     assert_eq!(rt;
         check_line(2, b"enter,511,0,16"),
-        board_fault(Refusal::DueOrClassTooLarge, 511)
+        Err(board_fault(Refusal::DueOrClassTooLarge, 511))
     );
     assert_eq!(rt;
         check_line(2, b"clear,512,,"),
-        board_fault(Refusal::NumberTooLarge, 512)
+        Err(board_fault(Refusal::NumberTooLarge, 512))
     );
     assert_eq!(rt;
         check_line(2, b"clash,512,99999,"),
-        board_fault(Refusal::NumberTooLarge, 512)
+        Err(board_fault(Refusal::NumberTooLarge, 512))
     );
     assert_eq!(rt;
         check_line(2, b"clash,2,99999,"),
-        board_fault(Refusal::NumberTooLarge, 99999)
+        Err(board_fault(Refusal::NumberTooLarge, 99999))
     );
     assert_eq!(rt;
         check_line(2, b"lapse,2,2,"),
-        board_fault(Refusal::SameLiftTwice, 2)
+        Err(board_fault(Refusal::SameLiftTwice, 2))
     );
     assert_eq!(rt; check_line(1, b"op,a,b,c"), Ok(()));
     assert_eq!(rt;

@@ -1,5 +1,6 @@
 -- What refuses, and with which fault. Assumes nothing.
-use Rattle.std.specs.Prelude.{ℕ, Bool, cond, ◌||◌, List, [], ◌∷◌, Some, None, Ok, Err, Option, Result, ◌==◌, nat_lt}
+use Rattle.std.specs.Prelude.{ℕ, Bool, if◌then◌else◌, ◌||◌, List, [], ◌∷◌, ◌++◌, codes, decimal, Some, None, Ok, Err, Option, Result, ◌==◌, nat_lt}
+use Rattle.lifts.specs.Numbers.{refusal_number}
 use Rattle.lifts.specs.declared.fault.Fault.{Fault}
 use Rattle.lifts.specs.declared.fault.Layer.{Layer}
 use Rattle.lifts.specs.declared.fault.Layer.TheVariants.{Board}
@@ -12,10 +13,18 @@ about refusal layer lift = record { refusal = refusal; layer = layer; lift = Som
 abbrev pub without_lift : Refusal → Layer → Fault
 without_lift refusal layer = record { refusal = refusal; layer = layer; lift = None }
 
+-- how a fault is told
+abbrev pub fault_text : Fault → List ℕ
+fault_text fault = codes "refused " ++ (decimal (refusal_number fault.refusal) ++ lift_text fault.lift)
+  where
+    lift_text : Option ℕ → List ℕ
+    lift_text None = []
+    lift_text (Some lift) = codes ", lift " ++ decimal lift
+
 -- Conditions in the order in which they are tried, each with its fault: the first that holds refuses.
 abbrev pub tried : List (Bool × Fault) → Option Fault
 tried [] = None
-tried (c ∷ cs) = cond c.0 (Some c.1) (tried cs)
+tried (c ∷ cs) = if c.0 then Some c.1 else tried cs
 
 abbrev pub unless_refused : {A : Type 0} → Option Fault → A → Result A Fault
 unless_refused None answer = Ok answer

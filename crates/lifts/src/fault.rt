@@ -1,7 +1,10 @@
 // What refuses a call, where, and about which lift.
-ghost use Rattle.std.specs.Prelude.{◌≡◌};
-ghost use Rattle.lifts.specs.Faults.{about, without_lift};
+ghost use Rattle.std.specs.Prelude.{◌≡◌, Some};
+ghost use Rattle.lifts.specs.Faults.{about, fault_text, without_lift};
 ghost use Rattle.lifts.specs.Numbers.{refusal_number};
+
+use std::error::Error;
+use std::fmt;
 
 // Each case has its number in the files and on the rows: `refusal_number` in specs/ fixes it.
 #[derive(Clone, Copy, PartialEq, Eq, Debug)]
@@ -23,11 +26,11 @@ pub enum Refusal {
     LineNumberOutOfRange = 15,
 }
 
-impl Refusal {
-    pub fn number(self) -> u32
-        ensures { result ≡ refusal_number self }
-    {
-        self as u32
+impl From<Refusal> for u32 {
+    ghost from_gives = { λ refusal number. number ≡ refusal_number refusal };
+
+    fn from(refusal: Refusal) -> u32 {
+        refusal as u32
     }
 }
 
@@ -69,3 +72,18 @@ impl Fault {
         }
     }
 }
+
+// `refused` with the number, and the lift if there is one.
+impl fmt::Display for Fault {
+    ghost output = { λ fault. Some (fault_text fault) };
+
+    fn fmt<W: fmt::Write>(&self, f: &mut fmt::Formatter<W>) -> fmt::Result {
+        let number = u32::from(self.refusal);
+        match self.lift {
+            Some(lift) => write!(f, "refused {number}, lift {lift}"),
+            None => write!(f, "refused {number}"),
+        }
+    }
+}
+
+impl Error for Fault {}

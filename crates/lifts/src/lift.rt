@@ -10,7 +10,7 @@ const LAST_DUE: u32 = 10079;
 
 const LAST_CLASS: u32 = 15;
 
-#[derive(Clone, Copy, PartialEq, Eq, Debug)]
+#[derive(Clone, Copy, PartialEq, Eq, PartialOrd, Ord, Debug)]
 pub struct LiftNumber {
     value: u32,
     ghost in_range: { value ≤ 511 },

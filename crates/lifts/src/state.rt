@@ -9,10 +9,10 @@ pub enum State {
     Off = 3,
 }
 
-impl State {
-    pub fn number(self) -> u32
-        ensures { result ≡ state_number self }
-    {
-        self as u32
+impl From<State> for u32 {
+    ghost from_gives = { λ state number. number ≡ state_number state };
+
+    fn from(state: State) -> u32 {
+        state as u32
     }
 }

@@ -1,8 +1,10 @@
 -- Fields between commas.
-use Rattle.std.proofs.Common.{◌≡◌, ℕ, zero, suc, ◌+◌, ◌-◌, ◌<◌, ◌≤◌, Bool, true, false, cond, not, ◌&&◌, eqb, leb, List, [], ◌∷◌, ◌++◌, length, get_or, take, drop, sym, refl, ap, ◌∙◌, ⊎_elim, arith}
-use Rattle.std.proofs.lemmas.List.{take-append-drop, take_all, drop_more, drop-drop, get_or-drop, get_or-take, length-drop, length-take}
+use Rattle.std.proofs.Common.{◌≡◌, ℕ, zero, suc, ◌+◌, ◌<◌, ◌≤◌, Bool, true, false, cond, not, ◌&&◌, eqb, leb, List, [], ◌∷◌, ◌++◌, length, get_or, take, drop, sym, refl, ap, ◌∙◌, ⊎_elim, arith}
+use Rattle.std.proofs.lemmas.List.{take-append-drop, take_all, take_rest, drop_more, drop-drop, get_or-take, length-drop, length-take}
 use Rattle.std.proofs.lemmas.Bool.{cases_lt, cond-true, cond-false, ne_eqb, eqb-true, and_parts, le-leb, lt-leb}
 use Rattle.std.proofs.lemmas.Bool.Decides.{nat_tests}
+use Rattle.std.specs.Prelude.{Option, None, Some, slice_range, unwrap_or}
+use Rattle.memchr.specs.Find.{IsFirstByte, is_byte}
 use Rattle.lines.specs.Format.{fields, fields_from, onto}
 use Rattle.lines.specs.Text.{commas}
 
@@ -86,13 +88,21 @@ fields_from_drop line start n h =
     let e = ap fields (drop-drop n start line) in
     grind (arith, nat_tests)
 
-pub fields_first : (line : List ℕ) (start end : ℕ) → start ≤ end → end ≤ length line → ((k : ℕ) → start ≤ k → k < end → get_or line k 0 ≡ 44 → ⊥) → (end < length line → get_or line end 0 ≡ 44) → fields_from line start ≡ take (end - start) (drop start line) ∷ fields_from line (end + 1)
-fields_first line start end h within before comma =
-    let n = end - start in
-    let l = length-drop start line in
-    let e : start + n ≡ end = omega arith in
-    cond-true (leb start (length line)) _ _ (le-leb start (length line) (omega arith))
-    ∙ first_field n (drop start line) (omega arith)
-    (λ i h c. before (start + i) (omega arith) (omega arith) (sym (get_or-drop start line i 0) ∙ c))
-    (λ h. get_or-drop start line n 0 ∙ ap (λ k. get_or line k 0) e ∙ comma (omega arith))
-    ∙ ap (λ t. take n (drop start line) ∷ t) (fields_from_drop line start (n + 1) (omega arith) ∙ ap (fields_from line) (omega arith))
+-- where the first comma stands, or the end
+first_comma : (bs : List ℕ) (r : Option ℕ) (n : ℕ) → IsFirstByte (is_byte 44) bs r → n ≡ unwrap_or r (length bs) → fields bs ≡ take n bs ∷ fields_from bs (n + 1)
+first_comma bs None n f is = first_field n bs (omega arith) (λ i l e. f i (omega arith) (omega arith) (grind (arith, nat_tests))) (λ l. absurd (omega arith))
+first_comma bs (Some m) n f is =
+    let low = f.0.low in
+    let high = f.0.high in
+    first_field n bs (omega arith)
+    (λ i l e. f.0.before i (omega arith) (omega arith) (grind (arith, nat_tests)))
+    (λ l. let h = f.1 in ap (λ k. get_or bs k 0) is ∙ grind (arith, nat_tests))
+
+pub fields_first : (line rest : List ℕ) (start : ℕ) (r : Option ℕ) (n : ℕ) → start ≤ length line → rest ≡ slice_range line start (length line) → IsFirstByte (is_byte 44) rest r → n ≡ unwrap_or r (length rest)
+    → fields_from line start ≡ take n rest ∷ fields_from line (start + (n + 1))
+fields_first line rest start r n h e f is =
+    let whole = e ∙ take_rest line start in
+    cond-true (leb start (length line)) _ _ (le-leb start (length line) h)
+    ∙ ap fields (sym whole)
+    ∙ first_comma rest r n f is
+    ∙ ap (λ t. take n rest ∷ t) (ap (λ xs. fields_from xs (n + 1)) whole ∙ fields_from_drop line start (n + 1) h)

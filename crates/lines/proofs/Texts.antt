@@ -6,10 +6,12 @@ use Rattle.std.proofs.lemmas.Slice.Eq.{bytes_eq-Decides}
 use Rattle.std.proofs.lemmas.List.{nil_from_length}
 use Rattle.std.proofs.lemmas.Bool.{cond-true, cond-false, lt-leb, le-leb, eqb-true, cases_Bool, cases_lt, false≢true}
 use Rattle.std.proofs.lemmas.Bool.Decides.{nat_tests}
+use Rattle.std.specs.Prelude.{option_and_then}
+use Rattle.std.specs.Option.{option_map}
 use Rattle.std.specs.Str.Parse.{digits_value}
 use Rattle.std.specs.Str.{all_ascii_digits, bytes_eq}
 use Rattle.lines.specs.Format.{numeral, is_numeral, argument, fields}
-use Rattle.lines.specs.Meaning.{meaning, line_meaning, change_of, reads_as, then, enter_of, clear_of, clash_of, lapse_of}
+use Rattle.lines.specs.Meaning.{meaning, line_meaning, change_of, reads_as, enter_of, clear_of, clash_of, lapse_of}
 use Rattle.lines.specs.Text.{commas, line_text, Writable, ReadsBack, OnlyText, OneLine}
 use Rattle.lines.specs.declared.change.Change.{Change}
 use Rattle.lines.specs.declared.change.Change.TheVariants.{Enter, Clear, Clash, Lapse}
@@ -25,9 +27,9 @@ not_header line h = ⊎_elim (λ e. absurd (omega (arith, ap length ((bytes_eq-D
 pub long_line_means_nothing : (number : ℕ) (line : List ℕ) → 64 < length line → line_meaning number line ≡ None
 long_line_means_nothing number line h = by (eqb number 1)
   where
-    by : (t : Bool) → cond t (cond (bytes_eq line (codes "op,a,b,c")) (Some Header) None) (then (meaning line) (λ c. Some (ChangeLine c))) ≡ None
+    by : (t : Bool) → cond t (cond (bytes_eq line (codes "op,a,b,c")) (Some Header) None) (option_map ChangeLine (meaning line)) ≡ None
     by true = cond-false (bytes_eq line (codes "op,a,b,c")) _ _ (not_header line h)
-    by false = ap (λ m. then m (λ c. Some (ChangeLine c))) (sym (long_means_nothing line h))
+    by false = ap (option_map ChangeLine) (sym (long_means_nothing line h))
 
 own : IsNumeralModel (λ ds. all_ascii_digits ds ≡ true) (digits_value 10)
 own = numerals_by_value (λ ds. all_ascii_digits ds ≡ true) tells_all_ascii_digits
@@ -64,7 +66,7 @@ decimal_small f n h =
     let v = digits_value_short own f 5 p.0 p.2 in
     (omega (arith, v, s.1), sym (decimal-digits_value own f p.0 p.1 p.3 (omega arith)) ∙ ap decimal s.1)
 
-three : {A : Type 0} (built : ℕ → ℕ → ℕ → A) (meant : A → Change) (o p q : Option ℕ) (x y z : ℕ) → o ≡ Some x → p ≡ Some y → q ≡ Some z → then (then o (λ a. then p (λ b. then q (λ c. Some (built a b c))))) (λ a. Some (meant a)) ≡ Some (meant (built x y z))
+three : {A : Type 0} (built : ℕ → ℕ → ℕ → A) (meant : A → Change) (o p q : Option ℕ) (x y z : ℕ) → o ≡ Some x → p ≡ Some y → q ≡ Some z → option_map meant (option_and_then (λ a. option_and_then (λ b. option_and_then (λ c. Some (built a b c)) q) p) o) ≡ Some (meant (built x y z))
 three built meant o p q x y z e f g = rw (e, f, g) refl
 
 plain_decimal : (n : ℕ) → n < 100000 → Plain (decimal n)
@@ -99,9 +101,13 @@ reads_back (Lapse x) h =
     means_four (codes "lapse") _ _ [] (Lapse x) (plain_by_test (codes "lapse") refl) (plain_decimal _ h.0) (plain_decimal _ h.1) none_plain (omega arith) (short_decimal _ h.0) (short_decimal _ h.1) (omega arith)
     (three lapse_of Lapse _ _ _ _ _ 0 (small_decimal _ h.0) (small_decimal _ h.1) refl)
 
-then_some : {A B : Type 0} (o : Option A) (next : A → Option B) (b : B) → then o next ≡ Some b → (a : A) × (o ≡ Some a) × (next a ≡ Some b)
+then_some : {A B : Type 0} (o : Option A) (next : A → Option B) (b : B) → option_and_then next o ≡ Some b → (a : A) × (o ≡ Some a) × (next a ≡ Some b)
 then_some None next b e = absurd (let z : ◌≡◌ {A = ℕ} 0 1 = cc in omega arith)
 then_some (Some a) next b e = (a, refl, e)
+
+map_some : {A B : Type 0} (o : Option A) (f : A → B) (b : B) → option_map f o ≡ Some b → (a : A) × (o ≡ Some a) × (f a ≡ b)
+map_some None f b e = absurd (let z : ◌≡◌ {A = ℕ} 0 1 = cc in omega arith)
+map_some (Some a) f b e = (a, refl, cc)
 
 -- what was read as a kind has three fields, with these numbers
 record Read {A : Type 0} (filled : ℕ) (built : ℕ → ℕ → ℕ → A) (meant : A → Change) (fs : List (List ℕ)) (change : Change) : Type 0 where
@@ -125,7 +131,7 @@ read filled built meant [] change e = no_some change e
 read filled built meant (a ∷ []) change e = no_some change e
 read filled built meant (a ∷ b ∷ []) change e = no_some change e
 read filled built meant (a ∷ b ∷ c ∷ []) change e =
-    let r = then_some _ _ _ e in
+    let r = map_some _ _ _ e in
     let s = then_some _ _ _ r.1 in
     let t = then_some _ _ _ s.2 in
     let u = then_some _ _ _ t.2 in

@@ -1,5 +1,6 @@
 -- The change that a line means.
-use Rattle.std.specs.Prelude.{ℕ, cond, ◌||◌, List, [], ◌∷◌, length, Some, None, codes, Option, ◌==◌, nat_le, nat_lt}
+use Rattle.std.specs.Prelude.{ℕ, if◌then◌else◌, ◌||◌, List, [], ◌∷◌, length, Some, None, codes, Option, option_and_then, ◌==◌, nat_le, nat_lt}
+use Rattle.std.specs.Option.{option_map}
 use Rattle.std.specs.Str.{bytes_eq}
 use Rattle.lines.specs.Format.{fields, argument}
 use Rattle.lifts.specs.Faults.{tried, without_lift}
@@ -14,10 +15,6 @@ use Rattle.lines.specs.declared.change.EnterArguments.{EnterArguments}
 use Rattle.lines.specs.declared.change.LapseArguments.{LapseArguments}
 use Rattle.lines.specs.declared.line.Line.{Line}
 use Rattle.lines.specs.declared.line.Line.TheVariants.{Header, Change as ChangeLine}
-
-abbrev pub then : {A B : Type 0} → Option A → (A → Option B) → Option B
-then None next = None
-then (Some a) next = next a
 
 abbrev pub enter_of : ℕ → ℕ → ℕ → EnterArguments
 enter_of a b c = record { number = a; due = b; class = c }
@@ -37,29 +34,32 @@ arguments filled built [] = None
 arguments filled built (a ∷ []) = None
 arguments filled built (a ∷ b ∷ []) = None
 arguments filled built (a ∷ b ∷ c ∷ []) =
-    then (argument (nat_lt 0 filled) a) (λ x. then (argument (nat_lt 1 filled) b) (λ y. then (argument (nat_lt 2 filled) c) (λ z. Some (built x y z))))
+    option_and_then (λ x. option_and_then (λ y. option_and_then (λ z. Some (built x y z)) (argument (nat_lt 2 filled) c)) (argument (nat_lt 1 filled) b)) (argument (nat_lt 0 filled) a)
 arguments filled built (a ∷ b ∷ c ∷ d ∷ rest) = None
 
 abbrev pub reads_as : {A : Type 0} → ℕ → (ℕ → ℕ → ℕ → A) → (A → Change) → List (List ℕ) → Option Change
-reads_as filled built meant fs = then (arguments filled built fs) (λ a. Some (meant a))
+reads_as filled built meant fs = option_map meant (arguments filled built fs)
 
 -- the word says which kind of change it is
 abbrev pub change_of : List (List ℕ) → Option Change
 change_of [] = None
 change_of (word ∷ fs) =
-    cond (bytes_eq word (codes "enter")) (reads_as 3 enter_of Enter fs)
-    (cond (bytes_eq word (codes "clear")) (reads_as 1 clear_of Clear fs)
-    (cond (bytes_eq word (codes "clash")) (reads_as 2 clash_of Clash fs)
-    (cond (bytes_eq word (codes "lapse")) (reads_as 2 lapse_of Lapse fs) None)))
+    if bytes_eq word (codes "enter") then reads_as 3 enter_of Enter fs
+    else if bytes_eq word (codes "clear") then reads_as 1 clear_of Clear fs
+    else if bytes_eq word (codes "clash") then reads_as 2 clash_of Clash fs
+    else if bytes_eq word (codes "lapse") then reads_as 2 lapse_of Lapse fs
+    else None
 
 -- a line has at most 64 bytes
 abbrev pub meaning : List ℕ → Option Change
-meaning line = cond (nat_le (length line) 64) (change_of (fields line)) None
+meaning line = if nat_le (length line) 64 then change_of (fields line) else None
 
 -- line 1 is the header
 abbrev pub line_meaning : ℕ → List ℕ → Option Line
 line_meaning number line =
-    cond (number == 1) (cond (bytes_eq line (codes "op,a,b,c")) (Some Header) None) (then (meaning line) (λ c. Some (ChangeLine c)))
+    if number == 1
+    then (if bytes_eq line (codes "op,a,b,c") then Some Header else None)
+    else option_map ChangeLine (meaning line)
 
 abbrev pub malformed_line : Fault
 malformed_line = without_lift MalformedLine File

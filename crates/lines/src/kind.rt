@@ -1,12 +1,11 @@
 // A kind of change is a type: its arguments, its word and how many of a line's fields it fills.
-ghost use Rattle.std.specs.Prelude.{◌≡◌, ℕ, List, codes};
+ghost use Rattle.std.specs.Prelude.{◌≡◌, ℕ};
 ghost use Rattle.lines.specs.Meaning.{enter_of, clear_of, clash_of, lapse_of};
 ghost use Rattle.lines.specs.declared.change.Change.{Change};
 ghost use Rattle.lines.specs.declared.change.Change.TheVariants.{Enter as EnterChange, Clear as ClearChange, Clash as ClashChange, Lapse as LapseChange};
 
 use super::change::{Change, ClashArguments, ClearArguments, EnterArguments, LapseArguments};
 
-// A clause cannot name a bound's constant, so ghost members say what the constants are, and generic code asks `spelling` and `filled_count`.
 pub trait ChangeKind {
     type Arguments;
 
@@ -14,19 +13,12 @@ pub trait ChangeKind {
 
     const FILLED: usize;
 
-    ghost spelled: { List ℕ };
+    ghost FILLED: { ℕ };
 
-    ghost count: { ℕ };
     // the arguments from the numbers of the filled fields; those of the empty fields do not matter
     ghost built: { ℕ → ℕ → ℕ → Self.Arguments };
 
     ghost meant: { Self.Arguments → Change };
-
-    fn spelling() -> &'static [u8]
-        ensures { result.now ≡ spelled };
-
-    fn filled_count() -> usize
-        ensures { result ≡ count };
 
     fn build(a: u32, b: u32, c: u32) -> Self::Arguments
         ensures { result ≡ built a b c };
@@ -50,21 +42,11 @@ impl ChangeKind for Enter {
 
     const FILLED: usize = 3;
 
-    ghost spelled = { codes "enter" };
-
-    ghost count = { 3 };
+    ghost FILLED = { 3 };
 
     ghost built = { enter_of };
 
     ghost meant = { EnterChange };
-
-    fn spelling() -> &'static [u8] {
-        Self::WORD
-    }
-
-    fn filled_count() -> usize {
-        Self::FILLED
-    }
 
     fn build(a: u32, b: u32, c: u32) -> EnterArguments {
         EnterArguments {
@@ -86,21 +68,11 @@ impl ChangeKind for Clear {
 
     const FILLED: usize = 1;
 
-    ghost spelled = { codes "clear" };
-
-    ghost count = { 1 };
+    ghost FILLED = { 1 };
 
     ghost built = { clear_of };
 
     ghost meant = { ClearChange };
-
-    fn spelling() -> &'static [u8] {
-        Self::WORD
-    }
-
-    fn filled_count() -> usize {
-        Self::FILLED
-    }
 
     fn build(a: u32, b: u32, c: u32) -> ClearArguments {
         ClearArguments { lift: a }
@@ -118,21 +90,11 @@ impl ChangeKind for Clash {
 
     const FILLED: usize = 2;
 
-    ghost spelled = { codes "clash" };
-
-    ghost count = { 2 };
+    ghost FILLED = { 2 };
 
     ghost built = { clash_of };
 
     ghost meant = { ClashChange };
-
-    fn spelling() -> &'static [u8] {
-        Self::WORD
-    }
-
-    fn filled_count() -> usize {
-        Self::FILLED
-    }
 
     fn build(a: u32, b: u32, c: u32) -> ClashArguments {
         ClashArguments {
@@ -153,21 +115,11 @@ impl ChangeKind for Lapse {
 
     const FILLED: usize = 2;
 
-    ghost spelled = { codes "lapse" };
-
-    ghost count = { 2 };
+    ghost FILLED = { 2 };
 
     ghost built = { lapse_of };
 
     ghost meant = { LapseChange };
-
-    fn spelling() -> &'static [u8] {
-        Self::WORD
-    }
-
-    fn filled_count() -> usize {
-        Self::FILLED
-    }
 
     fn build(a: u32, b: u32, c: u32) -> LapseArguments {
         LapseArguments {

@@ -29,21 +29,18 @@ fn read_argument(field: &[u8], filled: bool) -> Option<u32>
 {
     if filled {
         parse_number(field)
-    } else if field.is_empty() {
-        Some(0)
     } else {
-        None
+        field.is_empty().then_some(0)
     }
 }
 
 // The arguments of a kind, from the fields behind the word.
 fn read_arguments<K: ChangeKind>(reader: &mut FieldReader) -> Option<K::Arguments>
-    ensures { result ≡ arguments K.ChangeKind.count K.ChangeKind.built (fields_from reader.old.line.now reader.old.place) }
+    ensures { result ≡ arguments K.FILLED K.built (fields_from reader.old.line.now reader.old.place) }
 {
-    let filled = K::filled_count();
-    let a = read_argument(reader.next_field()?, 0 < filled)?;
-    let b = read_argument(reader.next_field()?, 1 < filled)?;
-    let c = read_argument(reader.next_field()?, 2 < filled)?;
+    let a = read_argument(reader.next_field()?, 0 < K::FILLED)?;
+    let b = read_argument(reader.next_field()?, 1 < K::FILLED)?;
+    let c = read_argument(reader.next_field()?, 2 < K::FILLED)?;
     if reader.next_field().is_some() {
         return None;
     }
@@ -51,33 +48,22 @@ fn read_arguments<K: ChangeKind>(reader: &mut FieldReader) -> Option<K::Argument
 }
 
 fn read_as<K: ChangeKind>(reader: &mut FieldReader) -> Option<Change>
-    ensures { result ≡ reads_as K.ChangeKind.count K.ChangeKind.built K.ChangeKind.meant (fields_from reader.old.line.now reader.old.place) }
+    ensures { result ≡ reads_as K.FILLED K.built K.meant (fields_from reader.old.line.now reader.old.place) }
 {
     let arguments = read_arguments::<K>(reader)?;
     Some(K::change(arguments))
-}
-
-fn same_bytes(a: &[u8], b: &[u8]) -> bool
-    ensures { result ≡ bytes_eq a.now b.now }
-{
-    a == b
 }
 
 // The change that the fields of a line mean.
 fn read_fields(reader: &mut FieldReader) -> Option<Change>
     ensures { result ≡ change_of (fields_from reader.old.line.now reader.old.place) }
 {
-    let word = reader.next_field()?;
-    if same_bytes(word, Enter::spelling()) {
-        read_as::<Enter>(reader)
-    } else if same_bytes(word, Clear::spelling()) {
-        read_as::<Clear>(reader)
-    } else if same_bytes(word, Clash::spelling()) {
-        read_as::<Clash>(reader)
-    } else if same_bytes(word, Lapse::spelling()) {
-        read_as::<Lapse>(reader)
-    } else {
-        None
+    match reader.next_field()? {
+        Enter::WORD => read_as::<Enter>(reader),
+        Clear::WORD => read_as::<Clear>(reader),
+        Clash::WORD => read_as::<Clash>(reader),
+        Lapse::WORD => read_as::<Lapse>(reader),
+        _ => None,
     }
 }
 
@@ -101,13 +87,9 @@ fn content_of(number: u32, line: &[u8]) -> Option<Line>
     ensures { result ≡ line_meaning number line.now }
 {
     if number != 1 {
-        return Some(Line::Change(change_in(line)?));
+        return change_in(line).map(Line::Change);
     }
-    if same_bytes(line, HEADER) {
-        Some(Line::Header)
-    } else {
-        None
-    }
+    (line == HEADER).then_some(Line::Header)
 }
 
 // The change that a line means, whatever its number.

@@ -12,7 +12,7 @@ fn digits_after(value: u32, rest: &[u8]) -> Option<u32>
     let mut value = value;
     for byte in rest {
         match *byte {
-            digit @ b'0'..=b'9' => value = value * 10 + (digit - b'0') as u32,
+            digit @ b'0'..=b'9' => value = value * 10 + u32::from(digit - b'0'),
             _ => return None,
         }
     }
@@ -25,7 +25,7 @@ pub fn parse_number(field: &[u8]) -> Option<u32>
     match field {
         [b'0'] => Some(0),
         [first @ b'1'..=b'9', rest @ ..] if rest.len() <= 4 => digits_after(
-            (*first - b'0') as u32,
+            u32::from(*first - b'0'),
             rest,
         ),
         _ => None,

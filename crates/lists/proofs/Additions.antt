@@ -1,25 +1,26 @@
 -- One addition after another.
-use Rattle.std.proofs.Common.{◌≡◌, ℕ, ◌+◌, ◌-◌, List, [], ◌++◌, take, drop, sym, refl, ap, ◌∙◌, arith}
+use Rattle.std.proofs.Common.{◌≡◌, ◌+◌, ◌-◌, List, [], ◌++◌, drop, sym, refl, ap, ◌∙◌, arith}
 use Rattle.std.proofs.lemmas.List.{append_assoc, append-nil, drop-drop, length-append}
-use Rattle.lists.specs.Entries.{Added}
+use Rattle.lists.specs.Entries.{Added, entries}
+use Rattle.lists.specs.declared.List.{List as LentList}
 
-pub added_none : {T : Type 0} (places : List T) (len : ℕ) → Added places len places len []
-added_none places len = record {
+pub added_none : {T : Type 0} (l : LentList T) → Added l l []
+added_none l = record {
   longer = omega arith;
-  entries = sym (append-nil (take len places));
+  entries = sym (append-nil (entries l));
   behind = refl;
   room = refl;
 }
 
-pub added_both : {T : Type 0} (p : List T) (l : ℕ) (q : List T) (m : ℕ) (r : List T) (n : ℕ) (xs ys : List T) → Added p l q m xs → Added q m r n ys → Added p l r n (xs ++ ys)
-added_both p l q m r n xs ys a b =
-    let k : m + (n - m) ≡ n = omega arith in
+pub added_both : {T : Type 0} (l m n : LentList T) (xs ys : List T) → Added l m xs → Added m n ys → Added l n (xs ++ ys)
+added_both l m n xs ys a b =
+    let k : m.len + (n.len - m.len) ≡ n.len = omega arith in
     record {
       longer = omega (arith, length-append xs ys);
-      entries = b.entries ∙ ap (λ zs. zs ++ ys) a.entries ∙ append_assoc (take l p) xs ys;
+      entries = b.entries ∙ ap (λ zs. zs ++ ys) a.entries ∙ append_assoc (entries l) xs ys;
       behind = b.behind
-          ∙ ap (λ i. drop i q) (sym k) ∙ sym (drop-drop (n - m) m q)
-          ∙ ap (drop (n - m)) a.behind
-          ∙ drop-drop (n - m) m p ∙ ap (λ i. drop i p) k;
+          ∙ ap (λ i. drop i m.places.now) (sym k) ∙ sym (drop-drop (n.len - m.len) m.len m.places.now)
+          ∙ ap (drop (n.len - m.len)) a.behind
+          ∙ drop-drop (n.len - m.len) m.len l.places.now ∙ ap (λ i. drop i l.places.now) k;
       room = b.room ∙ a.room;
     }

@@ -5,7 +5,6 @@ ghost use Rattle.std.specs.Prelude.{◌≡◌, ◌-◌, ◌<◌, ◌≤◌, [], 
 ghost use Rattle.lifts.specs.Faults.{without_lift};
 ghost use Rattle.lifts.specs.declared.fault.Layer.TheVariants.{Board};
 ghost use Rattle.lifts.specs.declared.fault.Refusal.TheVariants.{ListFull};
-ghost use Rattle.lists.specs.Entries.{Added, Kept};
 
 use lifts::{Fault, Layer, Refusal};
 
@@ -17,6 +16,8 @@ pub struct List<'a, T> {
 }
 
 impl<'a, T: Drop> List<'a, T> {
+    ghost use Rattle.lists.specs.Entries.{Added, Kept, entries};
+
     pub fn new(places: &'a mut [T]) -> List<'a, T>
         ensures empty { result.len ≡ 0 }
         ensures lent { result.places.now ≡ places.old }
@@ -39,14 +40,14 @@ impl<'a, T: Drop> List<'a, T> {
     }
 
     fn entries(&self) -> &[T]
-        ensures { result.now ≡ take self.now.len self.now.places.now }
+        ensures { result.now ≡ entries self.now }
     {
         &self.places[0..self.len]
     }
 
     pub fn get(&self, i: usize) -> Option<&T>
         ensures { elim result [
-          | Some e ↦ (i < self.now.len) × (e.now ≡ slice_index_or (take self.now.len self.now.places.now) i e.now)
+          | Some e ↦ (i < self.now.len) × (e.now ≡ slice_index_or (entries self.now) i e.now)
           | None ↦ self.now.len ≤ i
         ] }
     {
@@ -55,8 +56,8 @@ impl<'a, T: Drop> List<'a, T> {
 
     pub fn append(&mut self, entry: T) -> Result<(), Fault>
         ensures outcome { elim result [
-          | Ok _ ↦ (self.old.len < length self.old.places.now) × Added self.old.places.now self.old.len self.new.places.now self.new.len (entry ∷ [])
-          | Err f ↦ (self.old.len ≡ length self.old.places.now) × (f ≡ without_lift ListFull Board) × Kept self.old.places.now self.old.len self.new.places.now self.new.len
+          | Ok _ ↦ (self.old.len < length self.old.places.now) × Added self.old self.new (entry ∷ [])
+          | Err f ↦ (self.old.len ≡ length self.old.places.now) × (f ≡ without_lift ListFull Board) × Kept self.old self.new
         ] }
         ensures named { self.new.places.ghost_name ≡ self.old.places.ghost_name }
     {

@@ -20,7 +20,7 @@ impl Precedence for ByNumber {
     ghost transitive = { Prim.search rules };
 
     fn before(&self, first: Lift, second: Lift) -> bool {
-        first.number().get() < second.number().get()
+        first.number() < second.number()
     }
 }
 
@@ -38,8 +38,7 @@ impl Precedence for ByDue {
     ghost transitive = { Prim.search rules };
 
     fn before(&self, first: Lift, second: Lift) -> bool {
-        first.due() < second.due()
-            || (first.due() == second.due() && ByNumber.before(first, second))
+        (first.due(), first.number()) < (second.due(), second.number())
     }
 }
 
@@ -60,7 +59,7 @@ impl ByClass {
     fn rank(&self, lift: Lift) -> u8
         ensures { result ≡ rank_in self.now.ranks lift }
     {
-        self.ranks[lift.class() as usize]
+        self.ranks[usize::from(lift.class())]
     }
 }
 
@@ -74,8 +73,6 @@ impl Precedence for ByClass {
     ghost transitive = { Prim.search rules };
 
     fn before(&self, first: Lift, second: Lift) -> bool {
-        let first_rank = self.rank(first);
-        let second_rank = self.rank(second);
-        first_rank < second_rank || (first_rank == second_rank && ByNumber.before(first, second))
+        (self.rank(first), first.number()) < (self.rank(second), second.number())
     }
 }

@@ -1,5 +1,5 @@
 -- Two rows of one field each.
-use Rattle.std.specs.Prelude.{◌≡◌, ℕ, ◌+◌, ◌-◌, true, cond, List, [], ◌∷◌, ◌++◌, length, Ok, Err, Result, nat_le}
+use Rattle.std.specs.Prelude.{◌≡◌, ℕ, ◌+◌, ◌-◌, true, if◌then◌else◌, List, [], ◌∷◌, ◌++◌, length, Ok, Err, Result, nat_le}
 use Rattle.lifts.specs.declared.fault.Fault.{Fault}
 use Rattle.rows.specs.Texts.{Extended, Full, Text, fitting, pieces, row_text, written}
 use Rattle.rows.specs.declared.field.Field.{Field}
@@ -9,7 +9,7 @@ one_row field = row_text (field ∷ [])
 
 -- where the text ends with a row, if that fits
 abbrev pub end_with : Text → List ℕ → ℕ
-end_with text row = cond (nat_le (text.end + length row) (length text.bytes)) (text.end + length row) text.end
+end_with text row = if nat_le (text.end + length row) (length text.bytes) then text.end + length row else text.end
 
 -- Both rows; or the first, if it fits, and behind the text the pieces that fit.
 abbrev pub TwoRows : {X : Type 0} → Text → Field → Field → Text → Result X Fault → Type 0

@@ -1,5 +1,5 @@
 -- A text that grows at the front of its bytes, piece by piece, and the pieces of a row.
-use Rattle.std.specs.Prelude.{◌≡◌, ℕ, ◌+◌, ◌-◌, ◌<◌, ◌≤◌, Bool, true, false, cond, List, [], ◌∷◌, ◌++◌, length, take, drop, Ok, Err, codes, Result, nat_le}
+use Rattle.std.specs.Prelude.{◌≡◌, ℕ, ◌+◌, ◌-◌, ◌<◌, ◌≤◌, Bool, true, false, if◌then◌else◌, List, [], ◌∷◌, ◌++◌, length, take, drop, Ok, Err, codes, Result, nat_le}
 use Rattle.std.specs.List.{flat_map}
 use Rattle.lifts.specs.Faults.{without_lift}
 use Rattle.lifts.specs.declared.fault.Fault.{Fault}
@@ -58,7 +58,7 @@ pieces first (f ∷ fs) = row_piece first (field_text f) ∷ pieces false fs
 -- the pieces that fit in `room` bytes, up to the first that does not
 abbrev pub fitting : ℕ → List (List ℕ) → List ℕ
 fitting room [] = []
-fitting room (p ∷ ps) = cond (nat_le (length p) room) (p ++ fitting (room - length p) ps) []
+fitting room (p ∷ ps) = if nat_le (length p) room then p ++ fitting (room - length p) ps else []
 
 -- a row that was not finished: the text is as it was, and behind it stand the pieces that fitted
 pub record Abandoned (before : Text) (row : List (List ℕ)) (after : Text) : Type 0 where

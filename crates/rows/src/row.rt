@@ -4,7 +4,7 @@ ghost use Rattle.rows.specs.Fields.{field_text};
 ghost use Rattle.rows.specs.Rows.{SameLoans, text_of};
 ghost use Rattle.rows.specs.Texts.{Appended, Extended, Full, WholeRow, line_end, row_piece, text_to};
 
-use super::field::{Field, PIECE_LEN, put_piece};
+use super::field::{Field, piece_of};
 use lifts::{Fault, Layer, Refusal};
 
 // Where a text ends in its bytes, which the caller keeps.
@@ -30,10 +30,7 @@ impl Cursor {
     pub fn text<'t>(&self, bytes: &'t [u8]) -> &'t [u8]
         ensures { result.now ≡ take self.now.end bytes.now }
     {
-        if self.end < bytes.len() {
-            return &bytes[0..self.end];
-        }
-        bytes
+        bytes.get(..self.end).unwrap_or(bytes)
     }
 
     pub fn clear(&mut self)
@@ -91,24 +88,14 @@ impl Row<'_> {
         Ok(())
     }
 
-    fn append_field(&mut self, field: Field) -> Result<(), Fault>
-        ensures names { SameLoans self.old self.new }
-        ensures text { Appended (text_of self.old) (row_piece self.old.first (field_text field)) (text_of self.new) result }
-        ensures row { (self.new.start ≡ self.old.start) × (self.new.first ≡ self.old.first) }
-    {
-        let mut piece = [0u8; PIECE_LEN];
-        let at = put_piece(&mut piece, field, self.first);
-        self.append(&piece[at..])?;
-        Ok(())
-    }
-
     // A refused field leaves the row as it was, open for another.
     pub fn put(&mut self, field: Field) -> Result<(), Fault>
         ensures names { SameLoans self.old self.new }
         ensures text { Appended (text_of self.old) (row_piece self.old.first (field_text field)) (text_of self.new) result }
         ensures row { (self.new.start ≡ self.old.start) × (elim result [ Ok _ ↦ self.new.first ≡ false | Err _ ↦ self.new.first ≡ self.old.first ]) }
     {
-        self.append_field(field)?;
+        let piece = piece_of(field, self.first);
+        self.append(piece.as_str().as_bytes())?;
         self.first = false;
         Ok(())
     }

@@ -1,5 +1,5 @@
 -- The report on a file: a header, and a row for each line that no board takes.
-use Rattle.std.specs.Prelude.{◌≡◌, ℕ, ◌+◌, cond, List, [], ◌∷◌, ◌++◌, length, take, Some, None, Option, ◌==◌}
+use Rattle.std.specs.Prelude.{◌≡◌, ℕ, ◌+◌, if◌then◌else◌, List, [], ◌∷◌, ◌++◌, length, take, Some, None, Option, ◌==◌}
 use Rattle.std.specs.List.{flat_map}
 use Rattle.lifts.specs.declared.fault.Fault.{Fault}
 use Rattle.rows.specs.Texts.{row_text}
@@ -41,4 +41,4 @@ pub record File (input : List ℕ) (lines : List (List ℕ)) : Type 0 where
   pub ended : List (List ℕ)
   pub rest : List ℕ
   pub cut : Cut input ended rest
-  pub all : lines ≡ cond (length rest == 0) ended (ended ++ (rest ∷ []))
+  pub all : lines ≡ (if length rest == 0 then ended else ended ++ (rest ∷ []))

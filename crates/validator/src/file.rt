@@ -5,7 +5,6 @@ ghost use Rattle.lifts.specs.Faults.{without_lift};
 ghost use Rattle.lifts.specs.declared.fault.Layer.TheVariants.{File};
 ghost use Rattle.lifts.specs.declared.fault.Refusal.TheVariants.{TextFull};
 ghost use Rattle.rows.specs.Texts.{Extended, WholeRow, row_text, text_to};
-ghost use Rattle.validator.specs.Progress.{Finished, Further, Validated, begun};
 ghost use Rattle.validator.specs.Refusals.{line_refusal};
 ghost use Rattle.validator.specs.Report.{header_fields, line_faults, rows_of};
 
@@ -61,8 +60,10 @@ pub struct Validator {
 }
 
 impl Validator {
+    ghost use Rattle.validator.specs.Progress.{Finished, Further, Validated, begun};
+
     pub fn new() -> Validator
-        ensures { Validated [] (row_text header_fields) result.line result.number result.refused }
+        ensures { Validated [] (row_text header_fields) result }
     {
         Validator {
             line: LineBuffer::new(),
@@ -75,9 +76,9 @@ impl Validator {
     fn close_line(&mut self, bytes: &mut [u8], cursor: &mut Cursor)
         requires { (self.old.number < 1000001) × (cursor.old.end + 64 ≤ length bytes.old) }
         ensures numbers { self.new.number ≡ self.old.number + 1 }
-        ensures counts { self.new.refused ≡ self.old.refused + length (line_faults (self.old.number + 1) (line_refusal (self.old.number + 1) (take self.old.line.len self.old.line.bytes))) }
-        ensures clears { Opens self.new.line.bytes self.new.line.len self.new.line.cr [] }
-        ensures text { Extended (text_to bytes.old cursor.old.end) (rows_of (line_faults (self.old.number + 1) (line_refusal (self.old.number + 1) (take self.old.line.len self.old.line.bytes)))) (text_to bytes.new cursor.new.end) }
+        ensures counts { self.new.refused ≡ self.old.refused + length (line_faults (self.old.number + 1) (line_refusal (self.old.number + 1) self.old.line.bytes.items)) }
+        ensures clears { Opens self.new.line [] }
+        ensures text { Extended (text_to bytes.old cursor.old.end) (rows_of (line_faults (self.old.number + 1) (line_refusal (self.old.number + 1) self.old.line.bytes.items))) (text_to bytes.new cursor.new.end) }
     {
         self.number += 1;
         self.refused += report_line(self.number, self.line.get(), bytes, cursor);
@@ -88,7 +89,7 @@ impl Validator {
     fn step(&mut self, block: &[u8], at: usize, bytes: &mut [u8], cursor: &mut Cursor) -> usize
         requires { (self.old.number < 1000001) × ((at < length block.now) × (cursor.old.end + 64 ≤ length bytes.old)) }
         ensures place { (at < result) × (result ≤ length block.now) }
-        ensures law { (input text : List ℕ) → Validated input text self.old.line self.old.number self.old.refused → Further input text (take (result - at) (drop at block.now)) (text_to bytes.old cursor.old.end) (text_to bytes.new cursor.new.end) self.new.line self.new.number self.new.refused }
+        ensures law { (input text : List ℕ) → Validated input text self.old → Further input text (take (result - at) (drop at block.now)) (text_to bytes.old cursor.old.end) (text_to bytes.new cursor.new.end) self.new }
     {
         match self.line.take_line(block, at) {
             Some(next) => {
@@ -110,7 +111,7 @@ impl Validator {
         ensures place { (at ≤ result) × (at ≤ length block.now → result ≤ length block.now) }
         ensures moves { at < length block.now → self.old.number < 1000001 → cursor.old.end + 64 ≤ length bytes.old → at < result }
         ensures stops { result < length block.now → self.new.number < 1000001 → length bytes.new < cursor.new.end + 64 }
-        ensures law { (input text : List ℕ) → Validated input text self.old.line self.old.number self.old.refused → Further input text (take (result - at) (drop at block.now)) (text_to bytes.old cursor.old.end) (text_to bytes.new cursor.new.end) self.new.line self.new.number self.new.refused }
+        ensures law { (input text : List ℕ) → Validated input text self.old → Further input text (take (result - at) (drop at block.now)) (text_to bytes.old cursor.old.end) (text_to bytes.new cursor.new.end) self.new }
     {
         let mut place = at;
         while place < block.len() && self.number < END_LINE && has_room(bytes, cursor) {
@@ -123,7 +124,7 @@ impl Validator {
     pub fn finish(&mut self, bytes: &mut [u8], cursor: &mut Cursor) -> Result<(), Fault>
         ensures verdict { is_ok result ≡ (nat_le 1000001 self.old.number || (not (begun self.old.line) || nat_le (cursor.old.end + 64) (length bytes.old))) }
         ensures cases { elim result [
-          | Ok _ ↦ ((input text : List ℕ) → Validated input text self.old.line self.old.number self.old.refused → Finished input text (text_to bytes.old cursor.old.end) (text_to bytes.new cursor.new.end) self.new.number self.new.refused)
+          | Ok _ ↦ ((input text : List ℕ) → Validated input text self.old → Finished input text (text_to bytes.old cursor.old.end) (text_to bytes.new cursor.new.end) self.new)
           | Err f ↦ (f ≡ without_lift TextFull File) × (length bytes.old < cursor.old.end + 64) × (bytes.new ≡ bytes.old) × (cursor.new.end ≡ cursor.old.end) × (self.new.line ≡ self.old.line) × (self.new.number ≡ self.old.number) × (self.new.refused ≡ self.old.refused)
         ] }
     {

@@ -1,15 +1,15 @@
-use Rattle.std.proofs.Common.{◌<◌, arith}
-use lib.Count.{count_trailing_zeros}
-use Rattle.bit_matrix.proofs.Words.{lowest_none, trailing_clear, trailing_found, trailing_set}
+use Rattle.std.specs.Int.{w64}
+use Rattle.std.proofs.Common.{◌==◌, ap, arith}
+use Rattle.std.proofs.lemmas.Nat.Bits.{bit_at-trailing_zeros}
+use Rattle.bit_matrix.specs.Matrix.{bit_of}
+use Rattle.bit_matrix.proofs.Words.{bit_none}
 use Rattle.bit_matrix.proofs.bits.lowest_bit.Goals as goal
 
-pub returns-then-word-eq0 : goal.returns-then-word-eq0
-returns-then-word-eq0 c = record { lowest = λ k _. lowest_none c.args.word k c.if-word-eq0.true; within = tt }
+pub returns-then-word-eq0-clause-lowest : goal.returns-then-word-eq0-clause-lowest
+returns-then-word-eq0-clause-lowest c k _ = rw c.if-word-eq0.true (bit_none k)
 
-pub returns : goal.returns
-returns c =
-    let short : count_trailing_zeros 64 c.args.word < 64 = trailing_found 64 c.args.word (omega arith) (omega arith) in
-    record {
-      lowest = (omega arith, trailing_set 64 c.args.word short, λ k _. trailing_clear 64 c.args.word k);
-      within = short;
-    }
+pub returns-clause-lowest : goal.returns-clause-lowest
+unfolding bit_of
+returns-clause-lowest c =
+    let found = bit_at-trailing_zeros w64 c.args.word (omega arith) (omega arith) in
+    (omega arith, ap (λ n. n == 1) found.1, λ k _ l. ap (λ n. n == 1) (found.2 k l))

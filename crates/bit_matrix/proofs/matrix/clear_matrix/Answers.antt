@@ -1,6 +1,7 @@
 use Rattle.std.proofs.Common.{◌≡◌, length, take, refl, ◌∙◌, arith}
+use Rattle.std.proofs.lemmas.Bool.{lt-leb}
 use Rattle.std.proofs.lemmas.List.{length-take-le}
-use Rattle.bit_matrix.proofs.Rows.{cleared_empty, cleared_front, cleared_none}
+use Rattle.bit_matrix.proofs.Rows.{cleared_empty, cleared_front, marked_short}
 use Rattle.bit_matrix.proofs.matrix.clear_matrix.Goals as goal
 
 pub returns-then-words-ge-WORDS : goal.returns-then-words-ge-WORDS
@@ -11,8 +12,5 @@ returns-then-words-ge-WORDS c =
     (λ k l. c.fill.ensures.clones k 0 (omega arith) refl) in
     record { empty = cleared_empty words _ cleared; cleared = cleared }
 
-pub returns-else-words-ge-WORDS : goal.returns-else-words-ge-WORDS
-returns-else-words-ge-WORDS c =
-    let words = c.args.words.now in
-    let cleared = cleared_none words c.if-words-ge-WORDS.false in
-    record { empty = cleared_empty words words cleared; cleared = cleared }
+pub returns-else-words-ge-WORDS-clause-empty : goal.returns-else-words-ge-WORDS-clause-empty
+returns-else-words-ge-WORDS-clause-empty c x y = marked_short _ x y (lt-leb 4096 _ c.if-words-ge-WORDS.false)

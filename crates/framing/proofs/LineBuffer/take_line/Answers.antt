@@ -1,39 +1,27 @@
-use Rattle.std.proofs.Common.{◌-◌, length, take, drop, sym, ◌∙◌, subst, arith}
-use Rattle.framing.specs.Buffer.{Ended, Opens}
-use Rattle.framing.proofs.Steps.{ended_more, none_left, opens_more, taken_all, taken_more, taken_rest}
+use Rattle.std.proofs.Common.{[], ◌∷◌, ◌++◌, drop, sym, ap, ◌∙◌, subst, append_assoc}
+use Rattle.framing.specs.Buffer.{Ended}
+use Rattle.framing.proofs.Steps.{ended_more, opens_more, taken_on, taken_part, taken_twice}
 use Rattle.framing.proofs.LineBuffer.take_line.Goals as goal
 
-pub returns-then-at-block : goal.returns-then-at-block
-returns-then-at-block c =
-    let l = c.args.self.now in
-    record { place = tt; line = λ xs o. subst (Opens l.bytes l.len l.cr) (none_left xs c.args.block.now c.args.at (omega arith)) o }
-
-pub returns-then-feed : goal.returns-then-feed
-returns-then-feed c =
-    let b = c.args.block.now in
+pub returns-then-feed-clause-line : goal.returns-then-feed-clause-line
+returns-then-feed-clause-line c = λ xs o.
+    let v = c.loop-b.self in
+    let b = c.in-Some.b.now in
     let e = c.feed.ensures in
-    let l = c.feed.new.self in
-    record {
-      place = (omega arith, omega arith);
-      line = λ xs o. subst (Ended l.bytes l.len l.cr)
-          (taken_more xs (take (length b - c.args.at) (drop c.args.at b)) c.loop-i.i c.loop-i-test.true ∙ taken_rest xs b c.args.at c.loop-i.i)
-          (ended_more _ _ _ _ _ _ _ e.keeps e.cr _ (sym e.ends ∙ c.if-feed.true) (c.loop-i.invariant xs o));
-    }
+    let t = c.loop-b.invariant in
+    subst (Ended c.feed.new.self)
+    (append_assoc xs t.taken (b ∷ [])
+    ∙ ap (λ ys. xs ++ ys) (taken_part c.args.block.now t.taken c.in-Some.after.now c.args.at b (t.parts ∙ ap (λ ys. t.taken ++ ys) c.in-Some.ensures.cases.0)))
+    (ended_more v c.feed.new.self b e.keeps e.cr (xs ++ t.taken) (sym e.ends ∙ c.if-feed.true) (t.line xs o))
 
-pub loop-i-preserved : goal.loop-i-preserved
-loop-i-preserved c = λ xs o.
-    let b = c.args.block.now in
+pub loop-b-preserved : goal.loop-b-preserved
+loop-b-preserved c =
+    let v = c.loop-b.self in
+    let w = c.feed.new.self in
+    let z = c.take_plain-rest.new.self in
     let e = c.feed.ensures in
-    let l = c.feed.new.self in
-    c.take_plain-i.ensures.line xs (subst (Opens l.bytes l.len l.cr)
-    (taken_more xs (take (length b - c.args.at) (drop c.args.at b)) c.loop-i.i c.loop-i-test.true)
-    (opens_more _ _ _ _ _ _ _ e.keeps e.cr _ (sym e.ends ∙ c.if-feed.false) (c.loop-i.invariant xs o)))
-
-pub returns : goal.returns
-returns c =
-    let l = c.loop-i.self in
-    record {
-      place = tt;
-      line = λ xs o. subst (Opens l.bytes l.len l.cr)
-          (taken_all xs c.args.block.now c.args.at c.loop-i.i c.loop-i-test.false) (c.loop-i.invariant xs o);
-    }
+    taken_on c.args.self.now v z (drop c.args.at c.args.block.now) c.loop-b.rest.now c.take_plain-rest.result.now c.loop-b.invariant
+    (taken_twice v w z c.loop-b.rest.now c.in-Some.after.now c.take_plain-rest.result.now c.in-Some.b.now
+    (λ xs o. opens_more v w c.in-Some.b.now e.keeps e.cr xs (sym e.ends ∙ c.if-feed.false) o)
+    c.in-Some.ensures.cases.0
+    c.take_plain-rest.ensures)

@@ -1,11 +1,9 @@
-use Rattle.std.proofs.Common.{ℕ, ◌-◌, List, ◌++◌, length, take}
-use Rattle.framing.specs.Buffer.{Opens}
+use Rattle.std.proofs.Common.{drop, length}
+use Rattle.framing.specs.Buffer.{Takes}
 use Rattle.framing.proofs.LineBuffer.take_line.Given as goal
 
-abbrev pub invariant-loop-i : goal.invariant-loop-i
-invariant-loop-i l =
-    (xs : List ℕ) → Opens l.initial.self.bytes l.initial.self.len l.initial.self.cr xs
-    → Opens l.self.bytes l.self.len l.self.cr (xs ++ take l.i l.rest)
+abbrev pub invariant-loop-b : goal.invariant-loop-b
+invariant-loop-b l = Takes l.initial.self l.self (drop l.at l.block) l.rest
 
-abbrev pub decreases-loop-i : goal.decreases-loop-i
-decreases-loop-i l = length l.rest - l.i
+abbrev pub decreases-loop-b : goal.decreases-loop-b
+decreases-loop-b l = length l.rest

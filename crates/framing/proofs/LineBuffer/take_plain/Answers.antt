@@ -1,17 +1,18 @@
-use Rattle.std.proofs.Common.{◌∙◌, subst, arith}
-use Rattle.framing.specs.Buffer.{Opens}
-use Rattle.framing.proofs.Steps.{plain_more, taken_more}
+use Rattle.std.proofs.Common.{◌≢◌, ◌++◌, drop, sym, ap, ◌∙◌, subst, get_or, length, arith}
+use Rattle.std.proofs.lemmas.List.{take-append-drop}
+use Rattle.framing.proofs.Steps.{before_cr, plain_more}
 use Rattle.framing.proofs.LineBuffer.take_plain.Goals as goal
 
-pub loop-i-preserved : goal.loop-i-preserved
-loop-i-preserved c =
-    let i = c.loop-i.invariant in
-    let e = c.push.ensures in
-    let l = c.push.new.self in
-    let no-cr = e.cr ∙ i.1 in (
-      omega arith,
-      no-cr,
-      λ xs o. subst (Opens l.bytes l.len l.cr)
-          (taken_more xs c.args.bytes.now c.loop-i.i c.loop-i-test.true)
-          (plain_more _ _ _ _ _ _ _ e.keeps c.if-bytes-i-ne-CR.true i.1 no-cr _ (i.2 xs o)),
-    )
+pub returns : goal.returns
+returns c =
+    let bytes = c.args.bytes.now in
+    let n = c.unwrap_or.result in
+    let e = c.split_at.ensures in
+    record {
+      taken = c.split_at.result.0.now;
+      parts = sym (take-append-drop n bytes) ∙ ap (λ ys. ys ++ drop n bytes) (sym e.front) ∙ ap (λ ys. c.split_at.result.0.now ++ ys) (sym e.back);
+      line = plain_more c.args.self.now c.push_all.new.self c.split_at.result.0.now c.push_all.ensures.keeps c.push_all.ensures.cr c.if-self.false (λ k l.
+          subst (λ ys. get_or ys k 0 ≢ 13)
+          (sym e.front)
+          (before_cr bytes c.memchr.result n c.memchr.ensures c.unwrap_or.ensures k (omega (arith, ap length e.front))));
+    }

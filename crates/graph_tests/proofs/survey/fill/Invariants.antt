@@ -2,9 +2,9 @@ use Rattle.std.proofs.Common.{◌≡◌, ℕ, ◌+◌, ◌≤◌, true}
 use Rattle.conflicts.specs.Graphs.{edge_count}
 use Rattle.graph_tests.proofs.survey.fill.Given as goal
 
-abbrev pub invariant-loop-pair : goal.invariant-loop-pair
-invariant-loop-pair g l =
-    (l.taken ≤ l.pair-index)
+abbrev pub invariant-loop-a : goal.invariant-loop-a
+invariant-loop-a g l =
+    (l.taken ≤ l.a-index)
     × ((x y : ℕ) → g.G.ConflictGraph.adjacent l.initial.graph x y ≡ true → g.G.ConflictGraph.adjacent l.graph x y ≡ true)
     × (edge_count (g.G.ConflictGraph.adjacent l.graph) ≡ edge_count (g.G.ConflictGraph.adjacent l.initial.graph) + l.taken)
     × (g.G.ConflictGraph.limit l.graph ≡ g.G.ConflictGraph.limit l.initial.graph)

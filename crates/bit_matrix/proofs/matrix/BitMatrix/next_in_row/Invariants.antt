@@ -1,10 +1,7 @@
-use Rattle.std.proofs.Common.{◌≡◌, ℕ, ◌+◌, ◌*◌, ◌<◌, ◌≤◌, false}
+use Rattle.std.proofs.Common.{◌≡◌, ℕ, ◌*◌, ◌<◌, ◌≤◌, false}
 use Rattle.bit_matrix.specs.Matrix.{marked}
 use Rattle.bit_matrix.proofs.matrix.BitMatrix.next_in_row.Given as goal
 
--- There is no neighbour from `from` up to bit `start` of word k.
+-- There is no neighbour from `from` up to word k.
 abbrev pub invariant-loop-k : goal.invariant-loop-k
-invariant-loop-k l =
-    (l.start < 64)
-    × (l.from ≤ l.k * 64 + l.start)
-    × ((q : ℕ) → l.from ≤ q → q < l.k * 64 + l.start → marked l.self.words.now l.a q ≡ false)
+invariant-loop-k l = (q : ℕ) → l.from ≤ q → q < l.k * 64 → marked l.self.words.now l.fn.a.value q ≡ false

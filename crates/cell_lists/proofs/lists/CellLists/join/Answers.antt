@@ -1,56 +1,47 @@
-use Rattle.std.proofs.Common.{◌≡◌, ℕ, ◌+◌, ◌*◌, ◌<◌, false, length, refl, arith, lit<}
-use Rattle.cell_lists.specs.declared.lists.CellLists.{CellLists}
-use Rattle.cell_lists.specs.Lists.{memory, standing}
+use Rattle.std.proofs.Common.{◌*◌, refl, ◌∙◌, arith}
 use Rattle.cell_lists.specs.Memory.{view}
-use Rattle.cell_lists.proofs.Changes.{Joinable, join_beyond, join_done, join_second, two_free}
-use Rattle.cell_lists.proofs.Kept.{fields_of}
+use Rattle.cell_lists.proofs.Changes.{Joinable, Joining, joinable, join_beyond, join_done, join_fields, join_second, two_free}
 use Rattle.cell_lists.proofs.Steps.{count_small, top_within}
 use Rattle.cell_lists.proofs.lists.CellLists.join.Goals as goal
+use Rattle.cell_lists.proofs.lists.CellLists.join.Goals.{After-second-b, After-add-2}
 
-joinable : (l : CellLists) (a b : ℕ) → (a < 512) × (b < 512) × (a ≡ b → ⊥) → standing l a b ≡ false → l.pairs < l.capacity → Joinable l a b
-joinable l a b apart missing spare = record { first = apart.0; second = apart.1; other = apart.2; missing = missing; spare = spare }
+pair : (c : After-second-b) → Joinable c.args.self.now c.first-a.result.value c.second-b.result.value
+pair c = joinable c.args.self.now c.args.pair c.first-a.result c.second-b.result c.first-a.ensures c.second-b.ensures c.requires.missing c.requires.spare
 
-pub move_top-requires : goal.move_top-requires
-move_top-requires c =
+both : (c : After-add-2) → Joining c.args.self.now c.add.new.self c.add-2.new.self c.first-a.result.value c.second-b.result.value
+both c = record {
+  pair = joinable c.args.self.now c.args.pair c.first-a.result c.second-b.result c.first-a.ensures c.second-b.ensures c.requires.missing c.requires.spare;
+  first = c.add.ensures.added;
+  second = c.add-2.ensures.added;
+  first_kept = c.add.ensures.kept;
+  second_kept = c.add-2.ensures.kept;
+}
+
+pub add-requires : goal.add-requires
+add-requires c =
     let l = c.args.self.now in
-    let a = c.args.a in
-    let j = joinable l a c.args.b c.requires.apart c.requires.missing c.requires.spare in
-    let two = two_free l a c.args.b j in
-    let top = top_within (memory l) (2 * l.capacity) 512 l.ranged (omega arith) in
-    let small = count_small (memory l) a l.degrees (omega arith) in
-    record { apart = (lit< tt, omega arith, λ e. omega arith); some = omega arith; inside = omega (arith, l.long); fits = omega arith }
+    let a = c.first-a.result in
+    let two = two_free l a.value c.second-b.result.value (pair (goal.at.add-requires c).After-second-b) in
+    let top = top_within (view l.memory) (2 * l.capacity) 512 l.ranged (omega arith) in
+    let small = count_small (view l.memory) a.value l.degrees (omega (arith, a.in_range)) in
+    record { top = (omega arith, omega (arith, l.long)); room = omega arith }
 
-pub move_top-requires-2 : goal.move_top-requires-2
-move_top-requires-2 c =
+pub add-requires-2 : goal.add-requires-2
+add-requires-2 c =
     let l = c.args.self.now in
-    let j = joinable l c.args.a c.args.b c.requires.apart c.requires.missing c.requires.spare in
-    let u = view c.move_top.new.cells c.move_top.new.heads c.move_top.new.counts in
-    let s = join_second l u c.args.a c.args.b j c.move_top.ensures in
+    let s = join_second (view c.add.new.self) (pair (goal.at.add-requires-2 c).After-second-b) c.add.ensures.added in
     let top = s.top in
     let small = s.small in
-    record { apart = (lit< tt, omega arith, λ e. omega arith); some = s.some; inside = omega (arith, l.long); fits = omega arith }
+    let kept = c.add.ensures.kept.same_length in
+    record { top = (s.some, omega (arith, l.long)); room = omega arith }
 
 pub invariant_of-self : goal.invariant_of-self
-invariant_of-self c =
-    let l = c.args.self.now in
-    let j = joinable l c.args.a c.args.b c.requires.apart c.requires.missing c.requires.spare in
-    let u = view c.move_top.new.cells c.move_top.new.heads c.move_top.new.counts in
-    let w = view c.move_top-2.new.cells c.move_top-2.new.heads c.move_top-2.new.counts in
-    fields_of w (length c.move_top-2.new.cells) (l.pairs + 1) l.capacity (omega (arith, l.long)) l.most
-    (join_done l u w c.args.a c.args.b j c.move_top.ensures c.move_top-2.ensures).whole
+invariant_of-self c = join_fields (both (goal.at.invariant_of-self c).After-add-2)
 
 pub returns : goal.returns
 returns c =
-    let l = c.args.self.now in
-    let j = joinable l c.args.a c.args.b c.requires.apart c.requires.missing c.requires.spare in
-    let u = view c.move_top.new.cells c.move_top.new.heads c.move_top.new.counts in
-    let w = view c.move_top-2.new.cells c.move_top-2.new.heads c.move_top-2.new.counts in
+    let both = both (goal.at.returns c).After-add-2 in
     record {
-      after = (join_done l u w c.args.a c.args.b j c.move_top.ensures c.move_top-2.ensures).after;
-      frame = record {
-        same_cells = refl;
-        same_capacity = refl;
-        beyond = join_beyond l u c.move_top-2.new.cells c.move_top-2.new.heads c.move_top-2.new.counts c.args.a c.args.b j
-            c.move_top.ensures c.move_top-2.ensures (omega arith);
-      };
+      after = rw (← c.first-a.ensures, ← c.second-b.ensures) (join_done both).after;
+      frame = record { same_cells = c.add-2.ensures.kept.same_cells ∙ c.add.ensures.kept.same_cells; same_capacity = refl; beyond = join_beyond both };
     }

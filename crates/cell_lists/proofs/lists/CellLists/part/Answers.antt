@@ -1,71 +1,47 @@
-use Rattle.std.proofs.Common.{◌≡◌, ℕ, ◌-◌, ◌*◌, ◌<◌, true, length, sym, refl, arith}
-use Rattle.conflicts.proofs.Verdicts.{neighbour_other}
-use Rattle.cell_lists.specs.declared.lists.CellLists.{CellLists}
-use Rattle.cell_lists.specs.Chains.{Stands}
-use Rattle.cell_lists.specs.Lists.{memory, standing}
+use Rattle.std.proofs.Common.{◌*◌, refl, ◌∙◌, arith}
 use Rattle.cell_lists.specs.Memory.{view}
-use Rattle.cell_lists.proofs.Changes.{Partable, part_beyond, part_done, part_second}
-use Rattle.cell_lists.proofs.Kept.{fields_of}
-use Rattle.cell_lists.proofs.Steps.{stands_within, top_within}
+use Rattle.cell_lists.proofs.Changes.{Parting, partable, part_beyond, part_done, part_fields, part_second}
+use Rattle.cell_lists.proofs.Steps.{top_within}
 use Rattle.cell_lists.proofs.lists.CellLists.part.Goals as goal
+use Rattle.cell_lists.proofs.lists.CellLists.part.Goals.{After-cut-2}
 
-partable : (l : CellLists) (a b c d : ℕ) → a < 512 → b < 512 → (standing l a b ≡ true) × Stands (memory l) a b c → (standing l b a ≡ true) × Stands (memory l) b a d → Partable l a b c d
-partable l a b c d la lb s t = record { first = la; second = lb; other = neighbour_other (standing l) a b l.loopless s.0; at_first = s.1; at_second = t.1 }
+both : (c : After-cut-2) → Parting c.args.self.now c.cut.new.self c.cut-2.new.self c.args.a.value c.args.b.value c.in-Some.first c.in-Some-find.second
+both c = record {
+  pair = partable c.args.self.now c.args.a c.args.b c.in-Some.first c.in-Some-find.second c.in-Some.ensures c.in-Some-find.ensures.1;
+  first = c.cut.ensures.cut;
+  second = c.cut-2.ensures.cut;
+  first_kept = c.cut.ensures.kept;
+  second_kept = c.cut-2.ensures.kept;
+}
 
-pub cut-requires : goal.cut-requires
-cut-requires c =
+pub cut-requires-clause-top : goal.cut-requires-clause-top
+cut-requires-clause-top c =
     let l = c.args.self.now in
-    let a = c.args.a in
-    let s = c.in-Some.ensures.1 in
-    let within = s.within in
-    let top = top_within (memory l) (2 * l.capacity) a l.ranged (omega arith) in
-    let cell = stands_within (memory l) (2 * l.capacity) a c.args.b c.in-Some.first l.ranged s in
-    record { below = omega arith; some = omega arith; inside = (omega (arith, l.long), omega (arith, l.long)); fits = omega (arith, l.free, l.most) }
+    let within = c.in-Some.ensures.1.within in
+    let top = top_within (view l.memory) (2 * l.capacity) c.args.a.value l.ranged (omega arith) in
+    (omega arith, omega (arith, l.long))
 
-pub cut-requires-2 : goal.cut-requires-2
-cut-requires-2 c =
+pub cut-requires-2-clause-top : goal.cut-requires-2-clause-top
+cut-requires-2-clause-top c =
     let l = c.args.self.now in
-    let p = partable l c.args.a c.args.b c.in-Some.first c.in-Some-find.second (omega arith) (omega arith) c.in-Some.ensures c.in-Some-find.ensures in
-    let u = view c.cut.new.cells c.cut.new.heads c.cut.new.counts in
-    let s = part_second l u c.args.a c.args.b c.in-Some.first c.in-Some-find.second p c.cut.ensures in
+    let p = partable l c.args.a c.args.b c.in-Some.first c.in-Some-find.second c.in-Some.ensures c.in-Some-find.ensures.1 in
+    let s = part_second (view c.cut.new.self) p c.cut.ensures.cut in
     let top = s.top in
-    let cell = s.cell in
-    let free = s.free in
-    record { below = omega arith; some = s.some; inside = (omega (arith, l.long), omega (arith, l.long)); fits = omega (arith, l.free, l.most) }
+    let kept = c.cut.ensures.kept.same_length in
+    (s.some, omega (arith, l.long))
 
 pub overflow_sub-pairs : goal.overflow_sub-pairs
-overflow_sub-pairs c =
-    let l = c.args.self.now in
-    let p = partable l c.args.a c.args.b c.in-Some.first c.in-Some-find.second (omega arith) (omega arith) c.in-Some.ensures c.in-Some-find.ensures in
-    let u = view c.cut.new.cells c.cut.new.heads c.cut.new.counts in
-    let w = view c.cut-2.new.cells c.cut-2.new.heads c.cut-2.new.counts in
-    (part_done l u w c.args.a c.args.b c.in-Some.first c.in-Some-find.second p c.cut.ensures c.cut-2.ensures).some_pair
+overflow_sub-pairs c = (part_done (both (goal.at.overflow_sub-pairs c).After-cut-2)).some_pair
 
 pub invariant_of-self : goal.invariant_of-self
-invariant_of-self c =
-    let l = c.args.self.now in
-    let p = partable l c.args.a c.args.b c.in-Some.first c.in-Some-find.second (omega arith) (omega arith) c.in-Some.ensures c.in-Some-find.ensures in
-    let u = view c.cut.new.cells c.cut.new.heads c.cut.new.counts in
-    let w = view c.cut-2.new.cells c.cut-2.new.heads c.cut-2.new.counts in
-    fields_of w (length c.cut-2.new.cells) (l.pairs - 1) l.capacity (omega (arith, l.long)) l.most
-    (part_done l u w c.args.a c.args.b c.in-Some.first c.in-Some-find.second p c.cut.ensures c.cut-2.ensures).whole
+invariant_of-self c = part_fields (both (goal.at.invariant_of-self c).After-cut-2)
 
-pub returns : goal.returns
-returns c =
-    let l = c.args.self.now in
-    let p = partable l c.args.a c.args.b c.in-Some.first c.in-Some-find.second (omega arith) (omega arith) c.in-Some.ensures c.in-Some-find.ensures in
-    let u = view c.cut.new.cells c.cut.new.heads c.cut.new.counts in
-    let w = view c.cut-2.new.cells c.cut-2.new.heads c.cut-2.new.counts in
-    let done = part_done l u w c.args.a c.args.b c.in-Some.first c.in-Some-find.second p c.cut.ensures c.cut-2.ensures in
-    let some = done.some_pair in
-    record {
-      stood = sym c.in-Some.ensures.0;
-      after = done.after;
-      fewer = omega arith;
-      frame = record {
-        same_cells = refl;
-        same_capacity = refl;
-        beyond = part_beyond l u c.cut-2.new.cells c.cut-2.new.heads c.cut-2.new.counts c.args.a c.args.b c.in-Some.first c.in-Some-find.second p
-            c.cut.ensures c.cut-2.ensures (omega arith);
-      };
-    }
+pub returns-clause-after : goal.returns-clause-after
+returns-clause-after c = (part_done (both (goal.at.returns-clause-after c).After-cut-2)).after
+
+pub returns-clause-frame : goal.returns-clause-frame
+returns-clause-frame c = record {
+  same_cells = c.cut-2.ensures.kept.same_cells ∙ c.cut.ensures.kept.same_cells;
+  same_capacity = refl;
+  beyond = part_beyond (both (goal.at.returns-clause-frame c).After-cut-2);
+}

@@ -1,10 +1,8 @@
-use Rattle.std.proofs.Common.{rules}
 use Rattle.lines.proofs.Fields.{fields_first}
 use Rattle.lines.proofs.reader.FieldReader.next_field.Goals as goal
 
-pub returns : goal.returns
-returns c =
-    record {
-      line = search rules;
-      cases = fields_first c.args.self.now.line.now c.args.self.now.place c.field_end-end.result (search rules) (search rules) c.field_end-end.ensures.before c.field_end-end.ensures.comma;
-    }
+pub returns-clause-cases : goal.returns-clause-cases
+returns-clause-cases c =
+    let self = c.args.self.now in
+    let found = c.in_ok-rest.ensures.lookup.0 in
+    fields_first self.line.now c.in_ok-rest.rest.now self.place c.memchr.result c.unwrap_or-len.result found.0 found.2 c.memchr.ensures c.unwrap_or-len.ensures

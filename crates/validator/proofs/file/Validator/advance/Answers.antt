@@ -11,13 +11,13 @@ loop-place-init c =
     let block = c.args.block.now in
     let text = text_to c.args.bytes.now c.args.cursor.now.end in
     let self = c.args.self.now in
-    let none : 0 ≡ at - at = omega arith in (
-      omega arith,
-      (λ h. h),
-      (λ _. (refl, refl)),
-      λ input told v.
-          subst (λ n. Further input told (take n (drop at block)) text text self.line self.number self.refused) none (none_further input told text self.line self.number self.refused v),
-    )
+    let none : 0 ≡ at - at = omega arith in
+    record {
+      onward = omega arith;
+      within = λ h. h;
+      unmoved = λ _. (refl, refl);
+      law = λ input told v. subst (λ n. Further input told (take n (drop at block)) text text self) none (none_further input told text self v);
+    }
 
 pub loop-place-preserved : goal.loop-place-preserved
 loop-place-preserved c =
@@ -29,14 +29,17 @@ loop-place-preserved c =
     let middle = text_to c.loop-place.bytes c.loop-place.cursor.end in
     let after = text_to c.step-place.new.bytes c.step-place.new.cursor.end in
     let was = c.loop-place.self in
-    let is = c.step-place.new.self in (
-      omega arith,
-      search rules,
-      (λ e. absurd (omega arith)),
-      λ input text v.
-          let f = c.loop-place.invariant.3 input text v in
+    let is = c.step-place.new.self in
+    let done = c.loop-place.invariant in
+    let onward = done.onward in
+    record {
+      onward = omega arith;
+      within = search rules;
+      unmoved = λ e. absurd (omega arith);
+      law = λ input text v.
+          let f = done.law input text v in
           let room = leb-true (c.loop-place.cursor.end + 64) (length c.loop-place.bytes) (sym c.if-has_room.ensures) in
           let h : c.args.cursor.now.end ≤ length c.args.bytes.now = omega (arith, f.end, room, c.loop-place.auto.bytes) in
-          subst (λ t. Further input text t before after is.line is.number is.refused) (part_more block at place next (omega arith) (omega arith))
-          (further_twice input text _ _ before middle after was.line is.line was.number was.refused is.number is.refused h f c.step-place.ensures.law),
-    )
+          subst (λ t. Further input text t before after is) (part_more block at place next (omega arith) (omega arith))
+          (further_twice input text _ _ before middle after was is h f c.step-place.ensures.law);
+    }
