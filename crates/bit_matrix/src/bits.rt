@@ -46,7 +46,7 @@ pub(crate) fn next_bit(word: u64, from: u32) -> Option<u32>
     lowest_bit(bits_from(word, from))
 }
 
-// How many bits are set.
+// How many bits are set. The bound is what lets a row's sum fit.
 #[tactic(auto, using(crate::proofs::Words::weight_is))]
 pub(crate) fn weight(word: u64) -> u32
     ensures number { result ≡ count (bit_of word) 64 }

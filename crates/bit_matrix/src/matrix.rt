@@ -155,7 +155,7 @@ impl<'a> BitMatrix<'a> {
         *edges += 1;
     }
 
-    // Removes a pair that stands.
+    // Removes a pair that stands. Its premise and its count are other than those of `join`.
     fn part(&mut self, pair: LiftPair)
         requires { marked self.old.words.now pair.first.value pair.second.value ≡ true }
         ensures after { (x y : ℕ) → marked self.new.words.now x y ≡ (marked self.old.words.now x y && not (joins pair.first.value pair.second.value x y)) }

@@ -2,7 +2,7 @@
 use Rattle.std.proofs.Common.{◌≡◌, ℕ, zero, suc, ◌-◌, ◌<◌, true, false, List, [], ◌∷◌, map, length, get_or, Some, None, Option, MatchOption, Ok, Err, Result, sym, refl, ap, ◌∙◌, arith}
 use Rattle.std.specs.List.{AllWithin, HoldsAt}
 use Rattle.std.specs.Option.{option_map}
-use Rattle.std.specs.Result.{result_ok}
+use Rattle.std.specs.Result.{MatchResult, result_ok}
 use Rattle.std.proofs.lemmas.Bool.Decides.{nat_tests}
 use Rattle.std.proofs.lemmas.List.{get_or-map, length-map}
 use Rattle.lifts.specs.Faults.{number_refusal}
@@ -75,7 +75,7 @@ none_stand k x e y = holds_not (view k) x y (λ j lx ly lj h. omega (arith, ap l
 
 -- the number n that the top cell names is taken for a lift's number, and so the pair stands
 pub top_stands : (k : Memory) (x c n : ℕ) (rest : List (ℕ × ℕ)) (r : Result LiftNumber Fault) → x < 512 → Inside (view k) → chain k x ≡ (c, n) ∷ rest
-    → elim r as (λ _. Type 0) [ Ok m ↦ (number_refusal Book n ≡ None) × (m.value ≡ n) | Err f ↦ number_refusal Book n ≡ Some f ]
+    → MatchResult r (λ m. (number_refusal Book n ≡ None) × (m.value ≡ n)) (λ fault. number_refusal Book n ≡ Some fault)
     → (m : LiftNumber) × (result_ok r ≡ Some m) × (holds (view k) x m.value ≡ true)
 top_stands k x c n rest (Ok m) lx ins e h =
     let some : 0 < (view k).count x = omega (arith, ap length e, length-chain k x) in

@@ -6,7 +6,7 @@ ghost use Rattle.cell_lists.specs.Memory.{HasRoom, HasTop, Kept, blank, view};
 use super::cell::Cell;
 use lifts::LiftNumber;
 
-// The chain of the free cells; those below it are the numbers' own.
+// The chain of the free cells, after the numbers' own, so that one function moves a cell between any two chains.
 const FREE: u32 = 512;
 
 // The top cell of a chain, and how many cells it has.

@@ -1,5 +1,5 @@
 // The steps behind the graph's calls, over numbers that are in range.
-ghost use Rattle.std.specs.Prelude.{◌≡◌, ℕ, ◌+◌, ◌<◌, true, false, not, ◌&&◌, ◌||◌, IfSome, IfNone, nat_le};
+ghost use Rattle.std.specs.Prelude.{◌≡◌, ℕ, ◌+◌, ◌<◌, true, false, not, ◌&&◌, ◌||◌, MatchBool, IfSome, IfNone, nat_le};
 ghost use Rattle.conflicts.specs.Graphs.{Below, SmallestFrom, joins, touches};
 ghost use Rattle.cell_lists.specs.Chains.{Located};
 ghost use Rattle.cell_lists.specs.Lists.{Framed, standing};
@@ -63,10 +63,9 @@ impl CellLists<'_> {
     // Removes a pair, and says whether it stood.
     pub(crate) fn part(&mut self, a: LiftNumber, b: LiftNumber) -> bool
         ensures stood { result ≡ standing self.old a.value b.value }
-        ensures after { elim result [
-          | true ↦ ((x y : ℕ) → standing self.new x y ≡ (standing self.old x y && not (joins a.value b.value x y)))
-          | false ↦ self.new ≡ self.old
-        ] }
+        ensures after { MatchBool result
+            ((x y : ℕ) → standing self.new x y ≡ (standing self.old x y && not (joins a.value b.value x y)))
+            (self.new ≡ self.old) }
         ensures fewer { result ≡ true → self.old.pairs ≡ self.new.pairs + 1 }
         ensures frame { Framed self.old self.new }
     {

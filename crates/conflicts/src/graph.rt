@@ -1,5 +1,5 @@
 // A conflict graph: a set of unordered pairs of two different numbers below 512, and a capacity.
-ghost use Rattle.std.specs.Prelude.{◌≡◌, ℕ, ◌<◌, ◌≤◌, Bool, true, false, not, ◌&&◌, ◌||◌, Some, None, Ok, Err, IfOk, IfErr};
+ghost use Rattle.std.specs.Prelude.{◌≡◌, ℕ, ◌<◌, ◌≤◌, Bool, true, false, not, ◌&&◌, ◌||◌, Some, None, IfOk, IfErr, MatchResult};
 ghost use Rattle.lifts.specs.Faults.{number_refusal, unless_refused};
 ghost use Rattle.lifts.specs.declared.fault.Layer.TheVariants.{Book};
 ghost use Rattle.conflicts.specs.Graphs.{Below, SmallestFrom, degree, edge_count, joins, touches};
@@ -45,10 +45,9 @@ pub trait ConflictGraph {
 
     // The smallest neighbour of at least `from`.
     fn next_neighbour(&self, a: u32, from: u32) -> Result<Option<u32>, Fault>
-        ensures { elim result [
-          | Ok next ↦ (number_refusal Book a ≡ None) × SmallestFrom (adjacent self.now a) from next × Below 512 next
-          | Err f ↦ number_refusal Book a ≡ Some f
-        ] };
+        ensures { MatchResult result
+            (λ next. (number_refusal Book a ≡ None) × SmallestFrom (adjacent self.now a) from next × Below 512 next)
+            (λ fault. number_refusal Book a ≡ Some fault) };
 
     // What refuses the pair to `insert`, if anything does.
     fn check_insert(&self, a: u32, b: u32) -> Result<LiftPair, Fault>
@@ -79,29 +78,20 @@ pub trait ConflictGraph {
 
     fn insert(&mut self, a: u32, b: u32) -> Result<(), Fault>
         ensures verdict { result ≡ unless_refused (insert_refusal (adjacent self.old) (limit self.old) a b) tt }
-        ensures after { elim result [
-          | Ok _ ↦ ((x y : ℕ) → adjacent self.new x y ≡ (adjacent self.old x y || joins a b x y))
-          | Err _ ↦ self.new ≡ self.old
-        ] }
+        ensures after { MatchResult result (λ _. (x y : ℕ) → adjacent self.new x y ≡ (adjacent self.old x y || joins a b x y)) (λ _. self.new ≡ self.old) }
         ensures fixed { limit self.new ≡ limit self.old }
         ensures frame { framed self.old self.new };
 
     fn remove(&mut self, a: u32, b: u32) -> Result<(), Fault>
         ensures verdict { result ≡ unless_refused (remove_refusal (adjacent self.old) a b) tt }
-        ensures after { elim result [
-          | Ok _ ↦ ((x y : ℕ) → adjacent self.new x y ≡ (adjacent self.old x y && not (joins a b x y)))
-          | Err _ ↦ self.new ≡ self.old
-        ] }
+        ensures after { MatchResult result (λ _. (x y : ℕ) → adjacent self.new x y ≡ (adjacent self.old x y && not (joins a b x y))) (λ _. self.new ≡ self.old) }
         ensures fixed { limit self.new ≡ limit self.old }
         ensures frame { framed self.old self.new };
 
-    // Removes every pair of `a`.
+    // Removes every pair of `a`. The graph changes under way, so each neighbour is asked for anew.
     fn isolate(&mut self, a: u32) -> Result<(), Fault>
         ensures verdict { result ≡ unless_refused (number_refusal Book a) tt }
-        ensures after { elim result [
-          | Ok _ ↦ ((x y : ℕ) → adjacent self.new x y ≡ (adjacent self.old x y && not (touches a x y)))
-          | Err _ ↦ self.new ≡ self.old
-        ] }
+        ensures after { MatchResult result (λ _. (x y : ℕ) → adjacent self.new x y ≡ (adjacent self.old x y && not (touches a x y))) (λ _. self.new ≡ self.old) }
         ensures fixed { limit self.new ≡ limit self.old }
         ensures frame { framed self.old self.new }
     {

@@ -3,7 +3,7 @@
 
 pub mod laws;
 
-ghost use Rattle.std.specs.Prelude.{◌≡◌, ℕ, ◌-◌, ◌<◌, ◌≤◌, false, ◌||◌, List, [], ◌∷◌, ◌++◌, length, take, drop, Some, None, ◌==◌, nat_lt};
+ghost use Rattle.std.specs.Prelude.{◌≡◌, ℕ, ◌-◌, ◌<◌, ◌≤◌, false, ◌||◌, List, [], ◌∷◌, ◌++◌, length, take, drop, IfSome, MatchOption, ◌==◌, nat_lt};
 ghost use Rattle.framing.specs.Buffer.{Ended, Keeps, Opens, Takes, body_after, ends, held};
 
 use arrayvec::ArrayVec;
@@ -82,11 +82,10 @@ impl LineBuffer {
 
     // Takes bytes of the block from a place on until a line ends, and answers the place after it.
     pub fn take_line(&mut self, block: &[u8], at: usize) -> Option<usize>
-        ensures place { elim result [ Some p ↦ (at < p) × (p ≤ length block.now) | None ↦ Unit {0} ] }
-        ensures line { (xs : List ℕ) → Opens self.old xs → elim result [
-          | Some p ↦ Ended self.new (xs ++ take (p - at) (drop at block.now))
-          | None ↦ Opens self.new (xs ++ drop at block.now)
-        ] }
+        ensures place { IfSome result (λ p. (at < p) × (p ≤ length block.now)) }
+        ensures line { (xs : List ℕ) → Opens self.old xs → MatchOption result
+            (Opens self.new (xs ++ drop at block.now))
+            (λ p. Ended self.new (xs ++ take (p - at) (drop at block.now))) }
     {
         let mut rest = block.get(at..)?;
         while let Some((b, after)) = rest.split_first() {

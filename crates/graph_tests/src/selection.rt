@@ -1,5 +1,5 @@
 // Which of some lifts stands first, by every order.
-ghost use Rattle.std.specs.Prelude.{◌≡◌, ℕ, ◌<◌, false, length, Some, None, slice_index_or};
+ghost use Rattle.std.specs.Prelude.{◌≡◌, ℕ, ◌<◌, false, length, MatchOption, slice_index_or};
 ghost use Rattle.lifts.specs.declared.lift.Lift.{Lift};
 
 use lifts::{Fault, Lift};
@@ -7,10 +7,8 @@ use precedence::{ByClass, ByDue, ByNumber, Precedence};
 
 // The place of a lift before which none of the others stands.
 pub fn first_of<P: Precedence>(order: &P, lifts: &[Lift]) -> Option<usize>
-    ensures { elim result [
-      | Some i ↦ (i < length lifts.now) × ((k : ℕ) (d : Lift) → k < length lifts.now → P.Precedence.earlier order.now (slice_index_or lifts.now k d) (slice_index_or lifts.now i d) ≡ false)
-      | None ↦ length lifts.now ≡ 0
-    ] }
+    ensures { MatchOption result (length lifts.now ≡ 0)
+        (λ i. (i < length lifts.now) × ((k : ℕ) (d : Lift) → k < length lifts.now → P.Precedence.earlier order.now (slice_index_or lifts.now k d) (slice_index_or lifts.now i d) ≡ false)) }
 {
     if lifts.is_empty() {
         return None;

@@ -1,5 +1,5 @@
 // A table of pairs put into a graph, and every question at every number.
-ghost use Rattle.std.specs.Prelude.{◌≡◌, ℕ, ◌+◌, ◌<◌, ◌≤◌, true, false, Some, None, Ok, Err};
+ghost use Rattle.std.specs.Prelude.{◌≡◌, ℕ, ◌+◌, ◌<◌, ◌≤◌, true, false, MatchOption, MatchResult};
 ghost use Rattle.lifts.specs.Faults.{number_refusal, unless_refused};
 ghost use Rattle.lifts.specs.declared.fault.Layer.TheVariants.{Book};
 ghost use Rattle.conflicts.specs.Counting.{bit};
@@ -55,7 +55,7 @@ pub fn fill<G: ConflictGraph>(graph: &mut G, pairs: &[(u32, u32)]) -> usize
     taken
 }
 
-// How many neighbours there are, by going from one to the next.
+// How many neighbours there are, by asking for one after the other, as every loop over neighbours does.
 pub fn walk<G: ConflictGraph>(graph: &G, a: u32) -> Result<u32, Fault>
     ensures { result ≡ unless_refused (number_refusal Book a) (degree (G.ConflictGraph.adjacent graph.now) a) }
 {
@@ -70,7 +70,7 @@ pub fn walk<G: ConflictGraph>(graph: &G, a: u32) -> Result<u32, Fault>
 
 // Every number has a record, so that there is something to compare.
 fn record(number: u32) -> Result<Lift, Fault>
-    ensures { elim result [ Ok lift ↦ lift.number.value ≡ number | Err _ ↦ 511 < number ] }
+    ensures { MatchResult result (λ lift. lift.number.value ≡ number) (λ _. 511 < number) }
 {
     Lift::new(number, number % 64 * 100, number % 16)
 }
@@ -82,13 +82,11 @@ pub fn first_by<G: ConflictGraph, P: Precedence>(
     order: &P,
     a: u32,
 ) -> Result<Option<u32>, Fault>
-    ensures { elim result [
-      | Ok first ↦ elim first [
-        | Some b ↦ G.ConflictGraph.adjacent graph.now a b ≡ true
-        | None ↦ ((x : ℕ) → G.ConflictGraph.adjacent graph.now a x ≡ false)
-      ]
-      | Err _ ↦ 511 < a
-    ] }
+    ensures { MatchResult result
+        (λ first. MatchOption first
+        ((x : ℕ) → G.ConflictGraph.adjacent graph.now a x ≡ false)
+        (λ b. G.ConflictGraph.adjacent graph.now a b ≡ true))
+        (λ _. 511 < a) }
 {
     let mut first: Option<Lift> = None;
     let mut from = 0;

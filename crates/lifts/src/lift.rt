@@ -1,5 +1,5 @@
 // Lift numbers, lift records and pairs of lifts: no value outside their ranges exists.
-ghost use Rattle.std.specs.Prelude.{◌≡◌, ◌≤◌, Some, None, Ok, Err, ◌≢◌};
+ghost use Rattle.std.specs.Prelude.{◌≡◌, ◌≤◌, Some, None, MatchResult, ◌≢◌};
 ghost use Rattle.lifts.specs.Faults.{number_refusal, pair_refusal, record_refusal};
 
 use super::fault::{Fault, Layer, Refusal};
@@ -19,7 +19,9 @@ pub struct LiftNumber {
 impl LiftNumber {
     // `layer` is whose call is refused.
     pub fn new(value: u32, layer: Layer) -> Result<LiftNumber, Fault>
-        ensures { elim result [ Ok n ↦ (number_refusal layer value ≡ None) × (n.value ≡ value) | Err f ↦ number_refusal layer value ≡ Some f ] }
+        ensures { MatchResult result
+            (λ n. (number_refusal layer value ≡ None) × (n.value ≡ value))
+            (λ fault. number_refusal layer value ≡ Some fault) }
     {
         if value > LAST_NUMBER {
             return Err(Fault::about(Refusal::NumberTooLarge, layer, value));
@@ -46,9 +48,12 @@ pub struct Lift {
 
 impl Lift {
     pub fn new(number: u32, due: u32, class: u32) -> Result<Lift, Fault>
-        ensures { elim result [ Ok l ↦ (record_refusal number due class ≡ None) × (l.number.value ≡ number) × (l.due ≡ due) × (l.class ≡ class) | Err f ↦ record_refusal number due class ≡ Some f ] }
+        ensures { MatchResult result
+            (λ l. (record_refusal number due class ≡ None) × (l.number.value ≡ number) × (l.due ≡ due) × (l.class ≡ class))
+            (λ fault. record_refusal number due class ≡ Some fault) }
     {
         let number = LiftNumber::new(number, Layer::Board)?;
+        // Within these limits the casts below lose nothing.
         if due > LAST_DUE || class > LAST_CLASS {
             return Err(Fault::about(Refusal::DueOrClassTooLarge, Layer::Board, number.get()));
         }
@@ -89,7 +94,9 @@ pub struct LiftPair {
 impl LiftPair {
     // `layer` is whose call is refused.
     pub fn new(first: u32, second: u32, layer: Layer) -> Result<LiftPair, Fault>
-        ensures { elim result [ Ok p ↦ (pair_refusal layer first second ≡ None) × (p.first.value ≡ first) × (p.second.value ≡ second) | Err f ↦ pair_refusal layer first second ≡ Some f ] }
+        ensures { MatchResult result
+            (λ p. (pair_refusal layer first second ≡ None) × (p.first.value ≡ first) × (p.second.value ≡ second))
+            (λ fault. pair_refusal layer first second ≡ Some fault) }
     {
         let one = LiftNumber::new(first, layer)?;
         let other = LiftNumber::new(second, layer)?;

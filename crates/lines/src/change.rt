@@ -1,4 +1,4 @@
-// The four kinds of change, as a line gives them: the numbers may be too large for a board.
+// The four kinds of change, as a line gives them, each with a record of its own: the numbers may be too large for a board.
 #[derive(Clone, Copy, PartialEq, Eq, Debug)]
 pub struct EnterArguments {
     pub number: u32,

@@ -1,5 +1,5 @@
 // The fields of a line, one after another.
-ghost use Rattle.std.specs.Prelude.{◌≡◌, [], ◌∷◌, Some, None};
+ghost use Rattle.std.specs.Prelude.{◌≡◌, [], ◌∷◌, MatchOption};
 ghost use Rattle.lines.specs.Format.{fields, fields_from};
 
 use memchr::memchr;
@@ -23,7 +23,9 @@ impl<'a> FieldReader<'a> {
     // The next field, unless all were read.
     pub fn next_field(&mut self) -> Option<&'a [u8]>
         ensures line { self.new.line.now ≡ self.old.line.now }
-        ensures cases { elim result [ Some f ↦ fields_from self.old.line.now self.old.place ≡ f.now ∷ fields_from self.new.line.now self.new.place | None ↦ (fields_from self.old.line.now self.old.place ≡ []) × (self.new.place ≡ self.old.place) ] }
+        ensures cases { MatchOption result
+            ((fields_from self.old.line.now self.old.place ≡ []) × (self.new.place ≡ self.old.place))
+            (λ f. fields_from self.old.line.now self.old.place ≡ f.now ∷ fields_from self.new.line.now self.new.place) }
     {
         let rest = self.line.get(self.place..)?;
         let len = memchr(COMMA, rest).unwrap_or(rest.len());

@@ -1,13 +1,14 @@
 // A list over places that the caller lends.
 #![tactic(auto)]
 
-ghost use Rattle.std.specs.Prelude.{◌≡◌, ◌-◌, ◌<◌, ◌≤◌, [], ◌∷◌, length, take, Some, None, Ok, Err, slice_index_or};
+ghost use Rattle.std.specs.Prelude.{◌≡◌, ◌-◌, ◌<◌, ◌≤◌, [], ◌∷◌, length, take, MatchOption, MatchResult, slice_index_or};
 ghost use Rattle.lifts.specs.Faults.{without_lift};
 ghost use Rattle.lifts.specs.declared.fault.Layer.TheVariants.{Board};
 ghost use Rattle.lifts.specs.declared.fault.Refusal.TheVariants.{ListFull};
 
 use lifts::{Fault, Layer, Refusal};
 
+// The entries are the first `len` places: nothing is allocated.
 #[derive(Drop)]
 pub struct List<'a, T> {
     places: &'a mut [T],
@@ -46,19 +47,16 @@ impl<'a, T: Drop> List<'a, T> {
     }
 
     pub fn get(&self, i: usize) -> Option<&T>
-        ensures { elim result [
-          | Some e ↦ (i < self.now.len) × (e.now ≡ slice_index_or (entries self.now) i e.now)
-          | None ↦ self.now.len ≤ i
-        ] }
+        ensures { MatchOption result (self.now.len ≤ i)
+            (λ e. (i < self.now.len) × (e.now ≡ slice_index_or (entries self.now) i e.now)) }
     {
         self.entries().get(i)
     }
 
     pub fn append(&mut self, entry: T) -> Result<(), Fault>
-        ensures outcome { elim result [
-          | Ok _ ↦ (self.old.len < length self.old.places.now) × Added self.old self.new (entry ∷ [])
-          | Err f ↦ (self.old.len ≡ length self.old.places.now) × (f ≡ without_lift ListFull Board) × Kept self.old self.new
-        ] }
+        ensures outcome { MatchResult result
+            (λ _. (self.old.len < length self.old.places.now) × Added self.old self.new (entry ∷ []))
+            (λ fault. (self.old.len ≡ length self.old.places.now) × (fault ≡ without_lift ListFull Board) × Kept self.old self.new) }
         ensures named { self.new.places.ghost_name ≡ self.old.places.ghost_name }
     {
         if self.len == self.places.len() {

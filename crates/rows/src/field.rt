@@ -62,6 +62,7 @@ fn push_number(piece: &mut Piece, n: u32)
     piece.push_str(Buffer::new().format(n));
 }
 
+// Not by `write!`, which promises its text only where it succeeds, and does not promise that.
 fn push_field(piece: &mut Piece, field: Field)
     requires { array_string_len piece.old ≤ 1 }
     ensures { piece.new.bytes ≡ piece.old.bytes ++ field_text field }

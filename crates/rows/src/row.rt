@@ -1,5 +1,5 @@
 // Where a text ends, and the open row that extends it.
-ghost use Rattle.std.specs.Prelude.{◌≡◌, true, false, take, Ok, Err};
+ghost use Rattle.std.specs.Prelude.{◌≡◌, true, false, take, MatchResult};
 ghost use Rattle.rows.specs.Fields.{field_text};
 ghost use Rattle.rows.specs.Rows.{SameLoans, text_of};
 ghost use Rattle.rows.specs.Texts.{Appended, Extended, Full, WholeRow, line_end, row_piece, text_to};
@@ -7,7 +7,8 @@ ghost use Rattle.rows.specs.Texts.{Appended, Extended, Full, WholeRow, line_end,
 use super::field::{Field, piece_of};
 use lifts::{Fault, Layer, Refusal};
 
-// Where a text ends in its bytes, which the caller keeps.
+// Where a text ends in its bytes, which the caller keeps. Over a struct of both a caller would learn nothing of the text
+// after an open row.
 #[derive(Drop, Debug)]
 pub struct Cursor {
     end: usize,
@@ -65,7 +66,9 @@ pub struct Row<'t> {
 
 // Writes `piece` at `end`, whole or not at all, and returns where it ends.
 fn write_at(bytes: &mut [u8], end: usize, piece: &[u8]) -> Result<usize, Fault>
-    ensures { elim result [ Ok after ↦ Extended (text_to bytes.old end) piece.now (text_to bytes.new after) | Err f ↦ Full (text_to bytes.old end) piece.now f × (bytes.new ≡ bytes.old) ] }
+    ensures { MatchResult result
+        (λ after. Extended (text_to bytes.old end) piece.now (text_to bytes.new after))
+        (λ fault. Full (text_to bytes.old end) piece.now fault × (bytes.new ≡ bytes.old)) }
 {
     if end > bytes.len() || piece.len() > bytes.len() - end {
         return Err(Fault::without_lift(Refusal::TextFull, Layer::File));
@@ -92,7 +95,7 @@ impl Row<'_> {
     pub fn put(&mut self, field: Field) -> Result<(), Fault>
         ensures names { SameLoans self.old self.new }
         ensures text { Appended (text_of self.old) (row_piece self.old.first (field_text field)) (text_of self.new) result }
-        ensures row { (self.new.start ≡ self.old.start) × (elim result [ Ok _ ↦ self.new.first ≡ false | Err _ ↦ self.new.first ≡ self.old.first ]) }
+        ensures row { (self.new.start ≡ self.old.start) × MatchResult result (λ _. self.new.first ≡ false) (λ _. self.new.first ≡ self.old.first) }
     {
         let piece = piece_of(field, self.first);
         self.append(piece.as_str().as_bytes())?;
@@ -105,7 +108,9 @@ impl Row<'_> {
     pub fn finish(&mut self) -> Result<(), Fault>
         ensures names { SameLoans self.old self.new }
         ensures text { Appended (text_of self.old) line_end (text_of self.new) result }
-        ensures row { elim result [ Ok _ ↦ (self.new.start ≡ self.new.cursor.now.end) × (self.new.first ≡ true) | Err _ ↦ (self.new.start ≡ self.old.start) × (self.new.first ≡ self.old.first) ] }
+        ensures row { MatchResult result
+            (λ _. (self.new.start ≡ self.new.cursor.now.end) × (self.new.first ≡ true))
+            (λ _. (self.new.start ≡ self.old.start) × (self.new.first ≡ self.old.first)) }
     {
         self.append(b"\r\n")?;
         self.start = self.cursor.end;

@@ -1,5 +1,5 @@
 // A whole file, in blocks of any size.
-ghost use Rattle.std.specs.Prelude.{◌≡◌, ℕ, ◌+◌, ◌-◌, ◌<◌, ◌≤◌, not, ◌||◌, List, [], length, take, drop, is_ok, Ok, Err, nat_le};
+ghost use Rattle.std.specs.Prelude.{◌≡◌, ℕ, ◌+◌, ◌-◌, ◌<◌, ◌≤◌, not, ◌||◌, List, [], length, take, drop, is_ok, MatchResult, nat_le};
 ghost use Rattle.framing.specs.Buffer.{Opens};
 ghost use Rattle.lifts.specs.Faults.{without_lift};
 ghost use Rattle.lifts.specs.declared.fault.Layer.TheVariants.{File};
@@ -123,10 +123,9 @@ impl Validator {
     // The file has ended: reports its last line if that lacks its CRLF. Where a row may not fit, it is refused and all is as before.
     pub fn finish(&mut self, bytes: &mut [u8], cursor: &mut Cursor) -> Result<(), Fault>
         ensures verdict { is_ok result ≡ (nat_le 1000001 self.old.number || (not (begun self.old.line) || nat_le (cursor.old.end + 64) (length bytes.old))) }
-        ensures cases { elim result [
-          | Ok _ ↦ ((input text : List ℕ) → Validated input text self.old → Finished input text (text_to bytes.old cursor.old.end) (text_to bytes.new cursor.new.end) self.new)
-          | Err f ↦ (f ≡ without_lift TextFull File) × (length bytes.old < cursor.old.end + 64) × (bytes.new ≡ bytes.old) × (cursor.new.end ≡ cursor.old.end) × (self.new.line ≡ self.old.line) × (self.new.number ≡ self.old.number) × (self.new.refused ≡ self.old.refused)
-        ] }
+        ensures cases { MatchResult result
+            (λ _. (input text : List ℕ) → Validated input text self.old → Finished input text (text_to bytes.old cursor.old.end) (text_to bytes.new cursor.new.end) self.new)
+            (λ fault. (fault ≡ without_lift TextFull File) × (length bytes.old < cursor.old.end + 64) × (bytes.new ≡ bytes.old) × (cursor.new.end ≡ cursor.old.end) × (self.new.line ≡ self.old.line) × (self.new.number ≡ self.old.number) × (self.new.refused ≡ self.old.refused)) }
     {
         if self.is_done() {
             return Ok(());

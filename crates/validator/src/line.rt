@@ -48,6 +48,7 @@ pub fn check_line(number: u32, line: &[u8]) -> Result<(), Fault>
     check_meaning(number, line)
 }
 
+// A `match`, which keeps the range of the number for the proof.
 fn lift_field(lift: Option<u32>) -> Field
     ensures value { result ≡ lift_field lift }
     ensures short { length (field_text result) ≤ 10 }

@@ -1,5 +1,5 @@
 use Rattle.std.proofs.Common.{◌≡◌, ℕ, ◌+◌, ◌||◌, Ok, Err, Result, sym, ap, ◌∙◌, arith}
-use Rattle.std.specs.Prelude.{is_ok}
+use Rattle.std.specs.Prelude.{MatchResult, is_ok}
 use Rattle.lifts.specs.Faults.{unless_refused}
 use Rattle.lifts.specs.declared.fault.Fault.{Fault}
 use Rattle.conflicts.specs.Counting.{bit}
@@ -13,7 +13,7 @@ use Rattle.graph_tests.proofs.survey.offer.Goals as goal
 counted : {G : Type 0} (pairs : G → Graph) (before after : G) (capacity a b : ℕ) (r : Result (Unit {0}) Fault)
     → ((x y : ℕ) → pairs before x y ≡ pairs before y x)
     → r ≡ unless_refused (insert_refusal (pairs before) capacity a b) tt
-    → elim r as (λ _. Type 0) [ Ok _ ↦ ((x y : ℕ) → pairs after x y ≡ (pairs before x y || joins a b x y)) | Err _ ↦ after ≡ before ]
+    → MatchResult r (λ _. (x y : ℕ) → pairs after x y ≡ (pairs before x y || joins a b x y)) (λ _. after ≡ before)
     → edge_count (pairs after) ≡ edge_count (pairs before) + bit (is_ok r)
 counted pairs before after capacity a b (Ok _) same verdict new =
     let old = pairs before in
