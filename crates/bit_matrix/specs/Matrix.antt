@@ -37,12 +37,6 @@ abbrev pub with_pair : Graph → ℕ → ℕ → Bool → Graph
 with_pair g a b true x y = g x y || joins a b x y
 with_pair g a b false x y = g x y && not (joins a b x y)
 
-abbrev pub Symmetric : List ℕ → Type 0
-Symmetric words = (x y : ℕ) → marked words x y ≡ marked words y x
-
-abbrev pub Loopless : List ℕ → Type 0
-Loopless words = (x : ℕ) → marked words x x ≡ false
-
 -- Bits of the matrix have changed, and nothing else.
 pub record Framed (words words' : List ℕ) : Type 0 where
   pub as_long : length words' ≡ length words

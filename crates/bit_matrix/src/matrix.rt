@@ -2,28 +2,25 @@
 ghost use Rattle.std.specs.Prelude.{◌≡◌, ℕ, ◌+◌, ◌*◌, ◌/◌, ◌%◌, ◌<◌, ◌≤◌, true, false, not, ◌&&◌, ◌||◌, length, refl};
 ghost use Rattle.std.proofs.Common.{◌∙◌};
 ghost use Rattle.lifts.specs.Faults.{unless_refused};
-ghost use Rattle.conflicts.specs.Graphs.{Below, SmallestFrom, edge_count, joins};
+ghost use Rattle.conflicts.specs.Graphs.{Below, Loopless, SmallestFrom, Symmetric, edge_count, joins};
 ghost use Rattle.conflicts.specs.Refusals.{memory_refusal};
-ghost use Rattle.bit_matrix.specs.Matrix.{Cleared, Framed, Loopless, Symmetric, capacity_of, marked, row_of, suffices, weight_of, with_entry, with_pair};
+ghost use Rattle.bit_matrix.specs.Matrix.{Cleared, Framed, capacity_of, marked, row_of, suffices, weight_of, with_entry, with_pair};
 ghost use Rattle.bit_matrix.specs.Laws.{framed_on, framed_same, marked_bounded};
 
 use super::bits::{has_bit, next_bit, weight, with_bit};
-use conflicts::{ConflictGraph, check_memory};
+use conflicts::{ALL_PAIRS, ConflictGraph, check_memory};
 use lifts::{Fault, Layer, LiftNumber, LiftPair};
 
 const WORDS: usize = 4096;
 
 const ROW_WORDS: usize = 8;
 
-// As many pairs as 512 numbers have.
-const CAPACITY: u32 = 130_816;
-
 #[derive(Drop)]
 pub struct BitMatrix<'a> {
     words: &'a mut [u64],
     edges: u32,
-    ghost symmetric: { Symmetric words.now },
-    ghost loopless: { Loopless words.now },
+    ghost symmetric: { Symmetric (marked words.now) },
+    ghost loopless: { Loopless (marked words.now) },
     ghost counted: { edges ≡ edge_count (marked words.now) },
     ghost fitting: { edge_count (marked words.now) ≤ capacity_of words.now },
 }
@@ -192,7 +189,7 @@ impl ConflictGraph for BitMatrix<'_> {
     }
 
     fn capacity(&self) -> u32 {
-        if self.suffices() { CAPACITY } else { 0 }
+        if self.suffices() { ALL_PAIRS } else { 0 }
     }
 
     fn contains(&self, a: u32, b: u32) -> Result<bool, Fault> {

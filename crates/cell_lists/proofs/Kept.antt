@@ -1,8 +1,8 @@
 -- The ghost fields of the lists as one whole, and back.
 use Rattle.std.proofs.Common.{◌≡◌, ℕ, ◌+◌, ◌*◌, ◌≤◌, arith}
-use Rattle.conflicts.specs.Graphs.{edge_count}
+use Rattle.conflicts.specs.Graphs.{Bounded, Loopless, Symmetric, edge_count}
 use Rattle.cell_lists.specs.declared.lists.CellLists.{CellLists}
-use Rattle.cell_lists.specs.Chains.{Bounded, Degrees, Disjoint, Inside, Loopless, Ranged, Single, Symmetric, View, holds}
+use Rattle.cell_lists.specs.Chains.{Degrees, Disjoint, Inside, Ranged, Single, View, holds}
 use Rattle.cell_lists.specs.Memory.{view}
 use Rattle.cell_lists.proofs.Standing.{holds_bounded}
 use Rattle.cell_lists.proofs.Whole.{Whole}
@@ -29,9 +29,9 @@ Fields v cells pairs capacity = record {
   disjoint : Disjoint v;
   inside : Inside v;
   single : Single v;
-  symmetric : Symmetric v;
-  loopless : Loopless v;
-  bounded : Bounded v;
+  symmetric : Symmetric (holds v);
+  loopless : Loopless (holds v);
+  bounded : Bounded (holds v);
   degrees : Degrees v;
   free : v.count 512 + 2 * pairs ≡ 2 * capacity;
   counted : pairs ≡ edge_count (holds v);

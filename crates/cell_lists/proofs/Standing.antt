@@ -2,7 +2,8 @@
 use Rattle.std.proofs.Common.{◌≡◌, ℕ, ◌<◌, Bool, true, false, ◌&&◌, eqb, ltb, Decides, refl, inl, inr, arith}
 use Rattle.std.proofs.lemmas.Bool.Decides.{Decides-below_or, same_from_decides}
 use Rattle.std.proofs.lemmas.Bool.{and_from, and_parts, cases_Bool, eq-eqb, eqb-true, lt-ltb, ltb-true}
-use Rattle.cell_lists.specs.Chains.{Bounded, Stands, View, holds, named, some_below}
+use Rattle.conflicts.specs.Graphs.{Bounded}
+use Rattle.cell_lists.specs.Chains.{Stands, View, holds, named, some_below}
 
 pub some_decides : (p : ℕ → Bool) (n : ℕ) → Decides (some_below p n) ((k : ℕ) × (k < n) × (p k ≡ true))
 unfolding some_below
@@ -41,7 +42,7 @@ holds_not v x y d = elim (cases_Bool (holds v x y)) [
   | inr e ↦ e
 ]
 
-pub holds_bounded : (v : View) → Bounded v
+pub holds_bounded : (v : View) → Bounded (holds v)
 holds_bounded v x y l = holds_not v x y (λ j lx ly lj e. omega arith)
 
 pub stands_holds : (v : View) (a b c : ℕ) → a < 512 → b < 512 → Stands v a b c → holds v a b ≡ true

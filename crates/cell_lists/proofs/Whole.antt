@@ -2,9 +2,9 @@
 use Rattle.std.proofs.Common.{◌≡◌, ℕ, ◌+◌, ◌-◌, ◌*◌, ◌<◌, true, false, not, ◌&&◌, ◌||◌, eqb, sym, ap, ◌∙◌, arith}
 use Rattle.std.proofs.lemmas.Bool.Decides.{nat_tests}
 use Rattle.std.proofs.lemmas.Bool.{both_ways, ne_eqb}
-use Rattle.conflicts.specs.Graphs.{edge_count, joins}
+use Rattle.conflicts.specs.Graphs.{Loopless, Symmetric, edge_count, joins}
 use Rattle.conflicts.proofs.Edges.{both_halves, edges_fewer, edges_more, joined_loopless, joined_symmetric, neither_half, parted_loopless, parted_symmetric}
-use Rattle.cell_lists.specs.Chains.{Cut, Degrees, Disjoint, Inside, Loopless, Moved, Ranged, Single, Stands, Symmetric, View, holds, place, renamed}
+use Rattle.cell_lists.specs.Chains.{Cut, Degrees, Disjoint, Inside, Moved, Ranged, Single, Stands, View, holds, place, renamed}
 use Rattle.cell_lists.proofs.Places.{count_else, count_from, count_to, moved_disjoint, moved_ranged}
 use Rattle.cell_lists.proofs.Standing.{stands_holds}
 use Rattle.cell_lists.proofs.Adding.{holds_add, inside_add, single_add}
@@ -17,8 +17,8 @@ pub record Whole (v : View) (m n : ℕ) : Type 0 where
   pub disjoint : Disjoint v
   pub inside : Inside v
   pub single : Single v
-  pub symmetric : Symmetric v
-  pub loopless : Loopless v
+  pub symmetric : Symmetric (holds v)
+  pub loopless : Loopless (holds v)
   pub degrees : Degrees v
   pub free : v.count 512 + 2 * n ≡ m
   pub counted : n ≡ edge_count (holds v)

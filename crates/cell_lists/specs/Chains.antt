@@ -47,18 +47,6 @@ Inside v = (x j : ℕ) → x < 512 → j < v.count x → named v x j < 512
 abbrev pub Single : View → Type 0
 Single v = (x j k : ℕ) → x < 512 → j < v.count x → k < v.count x → named v x j ≡ named v x k → j ≡ k
 
--- a pair stands both ways
-abbrev pub Symmetric : View → Type 0
-Symmetric v = (x y : ℕ) → holds v x y ≡ holds v y x
-
--- no number is its own neighbour
-abbrev pub Loopless : View → Type 0
-Loopless v = (x : ℕ) → holds v x x ≡ false
-
--- no number above 511 has a neighbour
-abbrev pub Bounded : View → Type 0
-Bounded v = (x y : ℕ) → 511 < x → holds v x y ≡ false
-
 -- a number's chain is as long as the number has neighbours
 abbrev pub Degrees : View → Type 0
 Degrees v = (x : ℕ) → x < 512 → v.count x ≡ degree (holds v) x

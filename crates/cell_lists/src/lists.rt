@@ -1,7 +1,7 @@
 // Adjacency lists: each number below 512 has the chain of its neighbours.
 ghost use Rattle.std.specs.Prelude.{◌≡◌, ◌+◌, ◌*◌, ◌≤◌, length};
-ghost use Rattle.conflicts.specs.Graphs.{edge_count};
-ghost use Rattle.cell_lists.specs.Chains.{Bounded, Degrees, Disjoint, Inside, Loopless, Ranged, Single, Symmetric, holds};
+ghost use Rattle.conflicts.specs.Graphs.{Bounded, Loopless, Symmetric, edge_count};
+ghost use Rattle.cell_lists.specs.Chains.{Degrees, Disjoint, Inside, Ranged, Single, holds};
 ghost use Rattle.cell_lists.specs.Memory.{view};
 
 use super::chains::Memory;
@@ -17,9 +17,9 @@ pub struct CellLists<'a> {
     ghost disjoint: { Disjoint (view memory) },
     ghost inside: { Inside (view memory) },
     ghost single: { Single (view memory) },
-    ghost symmetric: { Symmetric (view memory) },
-    ghost loopless: { Loopless (view memory) },
-    ghost bounded: { Bounded (view memory) },
+    ghost symmetric: { Symmetric (holds (view memory)) },
+    ghost loopless: { Loopless (holds (view memory)) },
+    ghost bounded: { Bounded (holds (view memory)) },
     ghost degrees: { Degrees (view memory) },
     ghost free: { (view memory).count 512 + 2 * pairs ≡ 2 * capacity },
     ghost counted: { pairs ≡ edge_count (holds (view memory)) },

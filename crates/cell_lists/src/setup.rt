@@ -8,20 +8,17 @@ ghost use Rattle.cell_lists.specs.Memory.{capacity_of};
 use super::cell::Cell;
 use super::chains::Memory;
 use super::lists::CellLists;
-use conflicts::check_memory;
+use conflicts::{ALL_PAIRS, check_memory};
 use lifts::Fault;
 
 // Two cells are the fewest that hold a pair.
 const FEWEST_CELLS: usize = 2;
 
-// As many pairs as 512 numbers have.
-const ALL_PAIRS: usize = 130_816;
-
 fn pairs_in(cells: usize) -> u32
     ensures { result ≡ capacity_of cells }
 {
     let half = cells / 2;
-    half.min(ALL_PAIRS) as u32
+    half.min(ALL_PAIRS as usize) as u32
 }
 
 impl<'a> CellLists<'a> {

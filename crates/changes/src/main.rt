@@ -3,6 +3,7 @@
 
 ghost use Rattle.std.specs.Prelude.{◌≡◌, OnOk};
 
+use anyhow::Context;
 use lifts::Fault;
 use rows::Cursor;
 use std::io::{Read, Stdin, Stdout, Write};
@@ -11,6 +12,8 @@ use std::{env, io};
 use validator::{Summary, Validator, has_room, write_header};
 
 const BLOCK: usize = 65536;
+
+const NO_ROOM: &str = "no room for a row";
 
 // The rows that wait to be written to standard output.
 #[derive(Drop)]
@@ -43,19 +46,22 @@ impl Report {
 
     // Gives the validator a block of the file, and writes rows out when they fill their room.
     fn feed(&mut self, validator: &mut Validator, block: &[u8]) -> io::Result<()> {
-        let mut at = 0;
-        while at < block.len() && !validator.is_done() {
+        let mut rest = block;
+        while !rest.is_empty() && !validator.is_done() {
             if !has_room(&self.bytes, &self.cursor) {
                 self.flush()?;
             }
-            at = validator.advance(block, at, &mut self.bytes, &mut self.cursor);
+            let taken = validator.advance(rest, 0, &mut self.bytes, &mut self.cursor);
+            rest = &rest[taken..];
         }
         Ok(())
     }
 
     fn finish(&mut self, validator: &mut Validator) -> anyhow::Result<()> {
         self.flush()?;
-        validator.finish(&mut self.bytes, &mut self.cursor)?;
+        validator
+            .finish(&mut self.bytes, &mut self.cursor)
+            .context(NO_ROOM)?;
         self.flush()?;
         Ok(())
     }
@@ -64,7 +70,8 @@ impl Report {
 fn check(from: &mut Stdin, report: &mut Report) -> anyhow::Result<Summary> {
     let mut validator = Validator::new();
     let mut block = [0; BLOCK];
-    report.begin()?;
+    report.begin().context(NO_ROOM)?;
+    // Input has an end, and the count lets this loop have one too.
     for _ in 0..u64::MAX {
         if validator.is_done() {
             break;

@@ -6,6 +6,18 @@ use Rattle.conflicts.specs.Counting.{sum, count}
 abbrev pub Graph : Type 0
 Graph = ℕ → ℕ → Bool
 
+-- a pair stands both ways
+abbrev pub Symmetric : Graph → Type 0
+Symmetric g = (x y : ℕ) → g x y ≡ g y x
+
+-- no number is its own neighbour
+abbrev pub Loopless : Graph → Type 0
+Loopless g = (x : ℕ) → g x x ≡ false
+
+-- no number above 511 has a neighbour
+abbrev pub Bounded : Graph → Type 0
+Bounded g = (x y : ℕ) → 511 < x → g x y ≡ false
+
 -- x and y are a and b, either way round
 abbrev pub joins : ℕ → ℕ → Graph
 joins a b x y = (x == a && y == b) || (x == b && y == a)

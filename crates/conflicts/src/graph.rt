@@ -7,6 +7,9 @@ ghost use Rattle.conflicts.specs.Refusals.{insert_refusal, numbers_refusal, remo
 
 use lifts::{Fault, Layer, LiftPair, Refusal};
 
+// As many pairs as 512 numbers have.
+pub const ALL_PAIRS: u32 = 130_816;
+
 pub trait ConflictGraph {
     // the set of pairs that the graph means: whether two numbers are neighbours
     ghost adjacent: { Self → ℕ → ℕ → Bool };

@@ -5,5 +5,5 @@ pub mod graph;
 pub mod laws;
 pub mod memory;
 
-pub use graph::ConflictGraph;
+pub use graph::{ALL_PAIRS, ConflictGraph};
 pub use memory::check_memory;

@@ -10,15 +10,15 @@ use arrayvec::ArrayVec;
 use memchr::memchr;
 use std::mem;
 
-const CR: u8 = 13;
+const CR: u8 = b'\r';
 
-const LF: u8 = 10;
+const LF: u8 = b'\n';
 
 // The line that is being read: its first bytes, one more than a line may have, so that a reader knows that it is too long.
 #[derive(Drop)]
 pub struct LineBuffer {
     bytes: ArrayVec<u8, 65>,
-    // a CR is held back, since it may begin the line's end
+    // a CR is held back, since it may begin the line's end: no other byte ever is
     cr: bool,
 }
 

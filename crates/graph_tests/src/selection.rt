@@ -8,7 +8,7 @@ use precedence::{ByClass, ByDue, ByNumber, Precedence};
 // The place of a lift before which none of the others stands.
 pub fn first_of<P: Precedence>(order: &P, lifts: &[Lift]) -> Option<usize>
     ensures { MatchOption result (length lifts.now ≡ 0)
-        (λ i. (i < length lifts.now) × ((k : ℕ) (d : Lift) → k < length lifts.now → P.Precedence.earlier order.now (slice_index_or lifts.now k d) (slice_index_or lifts.now i d) ≡ false)) }
+        (λ i. (i < length lifts.now) × ((k : ℕ) (d : Lift) → k < length lifts.now → P.earlier order.now (slice_index_or lifts.now k d) (slice_index_or lifts.now i d) ≡ false)) }
 {
     if lifts.is_empty() {
         return None;

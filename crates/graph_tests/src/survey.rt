@@ -33,20 +33,20 @@ const PAIRS: [(u32, u32); 16] = [
 
 // Whether the pair was taken.
 fn offer<G: ConflictGraph>(graph: &mut G, a: u32, b: u32) -> bool
-    ensures kept { (x y : ℕ) → G.ConflictGraph.adjacent graph.old x y ≡ true → G.ConflictGraph.adjacent graph.new x y ≡ true }
-    ensures counted { edge_count (G.ConflictGraph.adjacent graph.new) ≡ edge_count (G.ConflictGraph.adjacent graph.old) + bit result }
-    ensures fixed { G.ConflictGraph.limit graph.new ≡ G.ConflictGraph.limit graph.old }
-    ensures frame { G.ConflictGraph.framed graph.old graph.new }
+    ensures kept { (x y : ℕ) → G.adjacent graph.old x y ≡ true → G.adjacent graph.new x y ≡ true }
+    ensures counted { edge_count (G.adjacent graph.new) ≡ edge_count (G.adjacent graph.old) + bit result }
+    ensures fixed { G.limit graph.new ≡ G.limit graph.old }
+    ensures frame { G.framed graph.old graph.new }
 {
     graph.insert(a, b).is_ok()
 }
 
 // Inserts each pair, goes on past the refused ones, and says how many were taken.
 pub fn fill<G: ConflictGraph>(graph: &mut G, pairs: &[(u32, u32)]) -> usize
-    ensures kept { (x y : ℕ) → G.ConflictGraph.adjacent graph.old x y ≡ true → G.ConflictGraph.adjacent graph.new x y ≡ true }
-    ensures counted { edge_count (G.ConflictGraph.adjacent graph.new) ≡ edge_count (G.ConflictGraph.adjacent graph.old) + result }
-    ensures fixed { G.ConflictGraph.limit graph.new ≡ G.ConflictGraph.limit graph.old }
-    ensures frame { G.ConflictGraph.framed graph.old graph.new }
+    ensures kept { (x y : ℕ) → G.adjacent graph.old x y ≡ true → G.adjacent graph.new x y ≡ true }
+    ensures counted { edge_count (G.adjacent graph.new) ≡ edge_count (G.adjacent graph.old) + result }
+    ensures fixed { G.limit graph.new ≡ G.limit graph.old }
+    ensures frame { G.framed graph.old graph.new }
 {
     let mut taken = 0;
     for &(a, b) in pairs {
@@ -57,7 +57,7 @@ pub fn fill<G: ConflictGraph>(graph: &mut G, pairs: &[(u32, u32)]) -> usize
 
 // How many neighbours there are, by asking for one after the other, as every loop over neighbours does.
 pub fn walk<G: ConflictGraph>(graph: &G, a: u32) -> Result<u32, Fault>
-    ensures { result ≡ unless_refused (number_refusal Book a) (degree (G.ConflictGraph.adjacent graph.now) a) }
+    ensures { result ≡ unless_refused (number_refusal Book a) (degree (G.adjacent graph.now) a) }
 {
     let mut count = 0;
     let mut from = 0;
@@ -84,18 +84,18 @@ pub fn first_by<G: ConflictGraph, P: Precedence>(
 ) -> Result<Option<u32>, Fault>
     ensures { MatchResult result
         (λ first. MatchOption first
-        ((x : ℕ) → G.ConflictGraph.adjacent graph.now a x ≡ false)
-        (λ b. G.ConflictGraph.adjacent graph.now a b ≡ true))
+        ((x : ℕ) → G.adjacent graph.now a x ≡ false)
+        (λ b. G.adjacent graph.now a b ≡ true))
         (λ _. 511 < a) }
 {
     let mut first: Option<Lift> = None;
     let mut from = 0;
     while let Some(b) = graph.next_neighbour(a, from)? {
         let lift = record(b)?;
-        first = match first {
-            Some(best) => Some(if order.before(lift, best) { lift } else { best }),
-            None => Some(lift),
-        };
+        first = Some(first.map_or(
+            lift,
+            |best| if order.before(lift, best) { lift } else { best },
+        ));
         from = b + 1;
     }
     Ok(first.map(|lift| lift.number().get()))

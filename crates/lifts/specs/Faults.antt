@@ -13,9 +13,13 @@ about refusal layer lift = record { refusal = refusal; layer = layer; lift = Som
 abbrev pub without_lift : Refusal → Layer → Fault
 without_lift refusal layer = record { refusal = refusal; layer = layer; lift = None }
 
+-- how a refusal is told, in rows too
+abbrev pub refusal_text : Refusal → List ℕ
+refusal_text refusal = codes "refused " ++ decimal (refusal_number refusal)
+
 -- how a fault is told
 abbrev pub fault_text : Fault → List ℕ
-fault_text fault = codes "refused " ++ (decimal (refusal_number fault.refusal) ++ lift_text fault.lift)
+fault_text fault = refusal_text fault.refusal ++ lift_text fault.lift
   where
     lift_text : Option ℕ → List ℕ
     lift_text None = []

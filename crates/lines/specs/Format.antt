@@ -3,6 +3,7 @@ use Rattle.std.specs.Prelude.{ℕ, Bool, false, if◌then◌else◌, ◌&&◌, L
 use Rattle.std.specs.Str.Parse.{digits_value}
 use Rattle.std.specs.Char.{is_ascii_digit}
 use Rattle.std.specs.Str.{all_ascii_digits}
+use Rattle.lines.specs.declared.reader.FieldReader.{FieldReader}
 
 -- the first field is one byte longer
 abbrev pub onto : ℕ → List (List ℕ) → List (List ℕ)
@@ -17,6 +18,10 @@ fields (b ∷ bs) = if b == 44 then [] ∷ fields bs else onto b (fields bs)
 -- the fields from a place on; past the line's end there is none
 abbrev pub fields_from : List ℕ → ℕ → List (List ℕ)
 fields_from line place = if nat_le place (length line) then fields (drop place line) else []
+
+-- the fields that a reader has before it
+abbrev pub fields_of : FieldReader → List (List ℕ)
+fields_of reader = fields_from reader.line.now reader.place
 
 -- 0 itself, or one to five digits with no zero first
 abbrev pub is_numeral : List ℕ → Bool

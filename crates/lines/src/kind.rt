@@ -1,5 +1,5 @@
 // A kind of change is a type: its arguments, its word and how many of a line's fields it fills.
-ghost use Rattle.std.specs.Prelude.{◌≡◌, ℕ};
+ghost use Rattle.std.specs.Prelude.{◌≡◌, ℕ, List, codes};
 ghost use Rattle.lines.specs.Meaning.{enter_of, clear_of, clash_of, lapse_of};
 ghost use Rattle.lines.specs.declared.change.Change.{Change};
 ghost use Rattle.lines.specs.declared.change.Change.TheVariants.{Enter as EnterChange, Clear as ClearChange, Clash as ClashChange, Lapse as LapseChange};
@@ -13,12 +13,18 @@ pub trait ChangeKind {
 
     const FILLED: usize;
 
+    ghost spelled: { List ℕ };
+
     ghost FILLED: { ℕ };
 
     // the arguments from the numbers of the filled fields; those of the empty fields do not matter
     ghost built: { ℕ → ℕ → ℕ → Self.Arguments };
 
     ghost meant: { Self.Arguments → Change };
+
+    // What the word is: a ghost member cannot say it of a constant that is a reference.
+    fn spelling() -> &'static [u8]
+        ensures { result.now ≡ spelled };
 
     fn build(a: u32, b: u32, c: u32) -> Self::Arguments
         ensures { result ≡ built a b c };
@@ -42,11 +48,17 @@ impl ChangeKind for Enter {
 
     const FILLED: usize = 3;
 
+    ghost spelled = { codes "enter" };
+
     ghost FILLED = { 3 };
 
     ghost built = { enter_of };
 
     ghost meant = { EnterChange };
+
+    fn spelling() -> &'static [u8] {
+        Self::WORD
+    }
 
     fn build(a: u32, b: u32, c: u32) -> EnterArguments {
         EnterArguments {
@@ -68,11 +80,17 @@ impl ChangeKind for Clear {
 
     const FILLED: usize = 1;
 
+    ghost spelled = { codes "clear" };
+
     ghost FILLED = { 1 };
 
     ghost built = { clear_of };
 
     ghost meant = { ClearChange };
+
+    fn spelling() -> &'static [u8] {
+        Self::WORD
+    }
 
     fn build(a: u32, b: u32, c: u32) -> ClearArguments {
         ClearArguments { lift: a }
@@ -90,11 +108,17 @@ impl ChangeKind for Clash {
 
     const FILLED: usize = 2;
 
+    ghost spelled = { codes "clash" };
+
     ghost FILLED = { 2 };
 
     ghost built = { clash_of };
 
     ghost meant = { ClashChange };
+
+    fn spelling() -> &'static [u8] {
+        Self::WORD
+    }
 
     fn build(a: u32, b: u32, c: u32) -> ClashArguments {
         ClashArguments {
@@ -115,11 +139,17 @@ impl ChangeKind for Lapse {
 
     const FILLED: usize = 2;
 
+    ghost spelled = { codes "lapse" };
+
     ghost FILLED = { 2 };
 
     ghost built = { lapse_of };
 
     ghost meant = { LapseChange };
+
+    fn spelling() -> &'static [u8] {
+        Self::WORD
+    }
 
     fn build(a: u32, b: u32, c: u32) -> LapseArguments {
         LapseArguments {

@@ -3,7 +3,7 @@ ghost use Rattle.std.specs.Prelude.{◌≡◌, ℕ, Bool, Some, None};
 ghost use Rattle.std.specs.Option.{ok_or};
 ghost use Rattle.std.specs.Str.{bytes_eq};
 ghost use Rattle.lifts.specs.Faults.{unless_refused};
-ghost use Rattle.lines.specs.Format.{fields_from, argument};
+ghost use Rattle.lines.specs.Format.{fields_of, argument};
 ghost use Rattle.lines.specs.Meaning.{arguments, reads_as, change_of, meaning, line_meaning, malformed_line, line_number_refusal};
 
 use super::change::Change;
@@ -36,7 +36,7 @@ fn read_argument(field: &[u8], filled: bool) -> Option<u32>
 
 // The arguments of a kind, from the fields behind the word.
 fn read_arguments<K: ChangeKind>(reader: &mut FieldReader) -> Option<K::Arguments>
-    ensures { result ≡ arguments K.FILLED K.built (fields_from reader.old.line.now reader.old.place) }
+    ensures { result ≡ arguments K.FILLED K.built (fields_of reader.old) }
 {
     let a = read_argument(reader.next_field()?, 0 < K::FILLED)?;
     let b = read_argument(reader.next_field()?, 1 < K::FILLED)?;
@@ -48,7 +48,7 @@ fn read_arguments<K: ChangeKind>(reader: &mut FieldReader) -> Option<K::Argument
 }
 
 fn read_as<K: ChangeKind>(reader: &mut FieldReader) -> Option<Change>
-    ensures { result ≡ reads_as K.FILLED K.built K.meant (fields_from reader.old.line.now reader.old.place) }
+    ensures { result ≡ reads_as K.FILLED K.built K.meant (fields_of reader.old) }
 {
     let arguments = read_arguments::<K>(reader)?;
     Some(K::change(arguments))
@@ -56,7 +56,7 @@ fn read_as<K: ChangeKind>(reader: &mut FieldReader) -> Option<Change>
 
 // The change that the fields of a line mean.
 fn read_fields(reader: &mut FieldReader) -> Option<Change>
-    ensures { result ≡ change_of (fields_from reader.old.line.now reader.old.place) }
+    ensures { result ≡ change_of (fields_of reader.old) }
 {
     match reader.next_field()? {
         Enter::WORD => read_as::<Enter>(reader),

@@ -1,6 +1,6 @@
 // The fields of a line, one after another.
 ghost use Rattle.std.specs.Prelude.{◌≡◌, [], ◌∷◌, MatchOption};
-ghost use Rattle.lines.specs.Format.{fields, fields_from};
+ghost use Rattle.lines.specs.Format.{fields, fields_of};
 
 use memchr::memchr;
 
@@ -15,7 +15,7 @@ pub struct FieldReader<'a> {
 
 impl<'a> FieldReader<'a> {
     pub fn new(line: &'a [u8]) -> FieldReader<'a>
-        ensures { fields_from result.line.now result.place ≡ fields line.now }
+        ensures { fields_of result ≡ fields line.now }
     {
         FieldReader { line, place: 0 }
     }
@@ -24,8 +24,8 @@ impl<'a> FieldReader<'a> {
     pub fn next_field(&mut self) -> Option<&'a [u8]>
         ensures line { self.new.line.now ≡ self.old.line.now }
         ensures cases { MatchOption result
-            ((fields_from self.old.line.now self.old.place ≡ []) × (self.new.place ≡ self.old.place))
-            (λ f. fields_from self.old.line.now self.old.place ≡ f.now ∷ fields_from self.new.line.now self.new.place) }
+            ((fields_of self.old ≡ []) × (self.new.place ≡ self.old.place))
+            (λ f. fields_of self.old ≡ f.now ∷ fields_of self.new) }
     {
         let rest = self.line.get(self.place..)?;
         let len = memchr(COMMA, rest).unwrap_or(rest.len());

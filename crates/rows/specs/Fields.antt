@@ -1,6 +1,6 @@
 -- The bytes of a field.
-use Rattle.std.specs.Prelude.{ℕ, List, [], ◌++◌, codes, decimal}
-use Rattle.lifts.specs.Numbers.{refusal_number}
+use Rattle.std.specs.Prelude.{ℕ, List, [], codes, decimal}
+use Rattle.lifts.specs.Faults.{refusal_text}
 use Rattle.lifts.specs.declared.state.State.{State}
 use Rattle.lifts.specs.declared.state.State.TheVariants as states
 use Rattle.rows.specs.declared.field.Field.{Field}
@@ -22,5 +22,5 @@ abbrev pub field_text : Field → List ℕ
 field_text fields.Empty = []
 field_text (fields.Number n) = decimal n
 field_text (fields.State s) = state_text s
-field_text (fields.Refused r) = codes "refused " ++ decimal (refusal_number r)
+field_text (fields.Refused r) = refusal_text r
 field_text (fields.Word w) = word_text w

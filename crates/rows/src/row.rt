@@ -55,7 +55,8 @@ impl Cursor {
     }
 }
 
-// An open row: `start` is where it began, and `first` says that it has no field yet. Its drop takes an
+// An open row: `start` is where it began, and `first` says that it has no field yet, which the two ends do not tell where a
+// field is empty. Its drop takes an
 // unfinished row out of the text again.
 pub struct Row<'t> {
     bytes: &'t mut [u8],

@@ -38,8 +38,10 @@ pub fn write_header(bytes: &mut [u8], cursor: &mut Cursor) -> Result<(), Fault>
 pub fn has_room(bytes: &[u8], cursor: &Cursor) -> bool
     ensures { result ≡ nat_le (cursor.now.end + 64) (length bytes.now) }
 {
-    let end = cursor.len();
-    end <= bytes.len() && bytes.len() - end >= ROW_ROOM
+    bytes
+        .len()
+        .checked_sub(cursor.len())
+        .is_some_and(|room| room >= ROW_ROOM)
 }
 
 // How many lines were read, and of those how many some board could take and how many no board could.
