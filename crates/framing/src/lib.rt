@@ -34,6 +34,7 @@ impl LineBuffer {
     }
 
     // Bytes past the 65th are dropped.
+    #[tactic(auto, using(crate::proofs::Bytes::keeps_all, std::proofs::lemmas::Grind::common_steps))]
     fn push_all(&mut self, bytes: &[u8])
         ensures keeps { (body : List ℕ) → Keeps self.old body → Keeps self.new (body ++ bytes.now) }
         ensures cr { self.new.cr ≡ self.old.cr }

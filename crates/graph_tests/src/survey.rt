@@ -56,6 +56,7 @@ pub fn fill<G: ConflictGraph>(graph: &mut G, pairs: &[(u32, u32)]) -> usize
 }
 
 // How many neighbours there are, by asking for one after the other, as every loop over neighbours does.
+#[tactic(auto, using(conflicts::proofs::Sums::count_le, conflicts::proofs::Sums::count_next, conflicts::proofs::Sums::count_skip, conflicts::proofs::Sums::sum_zero))]
 pub fn walk<G: ConflictGraph>(graph: &G, a: u32) -> Result<u32, Fault>
     ensures { result ≡ unless_refused (number_refusal Book a) (degree (G.adjacent graph.now) a) }
 {

@@ -1,7 +1,7 @@
 -- Fields between commas.
-use Rattle.std.proofs.Common.{◌≡◌, ℕ, zero, suc, ◌+◌, ◌<◌, ◌≤◌, Bool, true, false, cond, not, ◌&&◌, eqb, leb, List, [], ◌∷◌, ◌++◌, length, get_or, take, drop, sym, refl, ap, ◌∙◌, ⊎_elim, arith}
+use Rattle.std.proofs.Common.{◌≡◌, ◌==◌, if◌then◌else◌, ℕ, zero, suc, ◌+◌, ◌<◌, ◌≤◌, Bool, true, false, not, ◌&&◌, List, [], ◌∷◌, ◌++◌, length, get_or, take, drop, sym, refl, ap, ◌∙◌, ◌≢◌, inl, inr, arith}
 use Rattle.std.proofs.lemmas.List.{take-append-drop, take_all, take_rest, drop_more, drop-drop, get_or-take, length-drop, length-take}
-use Rattle.std.proofs.lemmas.Bool.{cases_lt, cond-true, cond-false, ne_eqb, eqb-true, and_parts, le-leb, lt-leb}
+use Rattle.std.proofs.lemmas.Bool.{cases_lt, eqb-true}
 use Rattle.std.proofs.lemmas.Bool.Decides.{nat_tests}
 use Rattle.std.specs.Prelude.{Option, None, Some, slice_range, unwrap_or}
 use Rattle.memchr.specs.Find.{IsFirstByte, is_byte}
@@ -10,41 +10,45 @@ use Rattle.lines.specs.Text.{commas}
 
 -- no comma stands in it
 abbrev pub Plain : List ℕ → Type 0
-Plain f = (i : ℕ) → i < length f → get_or f i 0 ≡ 44 → ⊥
+Plain f = (i : ℕ) → i < length f → get_or f i 0 ≢ 44
 
+-- nor behind its first byte
 plain_rest : (b : ℕ) (f : List ℕ) → Plain (b ∷ f) → Plain f
 plain_rest b f p i h e = p (suc i) (omega arith) e
 
-fields_byte : (b : ℕ) (bs : List ℕ) → (b ≡ 44 → ⊥) → fields (b ∷ bs) ≡ onto b (fields bs)
-fields_byte b bs ne = cond-false (eqb b 44) _ _ (ne_eqb b 44 ne)
+-- another byte is the first field's
+fields_byte : (b : ℕ) (bs : List ℕ) → b ≢ 44 → fields (b ∷ bs) ≡ onto b (fields bs)
+fields_byte b bs ne = grind (arith, nat_tests)
 
+-- the last field, and one with a comma behind it
 pub fields_last : (f : List ℕ) → Plain f → fields f ≡ f ∷ []
 fields_last [] p = refl
-fields_last (b ∷ f) p = fields_byte b f (p 0 (omega arith)) ∙ ap (onto b) (fields_last f (plain_rest b f p))
+fields_last (b ∷ f) p = rw (fields_byte b f (p 0 (omega arith)), fields_last f (plain_rest b f p)) refl
 
 pub fields_next : (f rest : List ℕ) → Plain f → fields (f ++ (44 ∷ rest)) ≡ f ∷ fields rest
 fields_next [] rest p = refl
-fields_next (b ∷ f) rest p =
-    fields_byte b (f ++ (44 ∷ rest)) (p 0 (omega arith)) ∙ ap (onto b) (fields_next f rest (plain_rest b f p))
+fields_next (b ∷ f) rest p = rw (fields_byte b (f ++ (44 ∷ rest)) (p 0 (omega arith)), fields_next f rest (plain_rest b f p)) refl
 
 abbrev pub no_comma : List ℕ → Bool
 no_comma [] = true
-no_comma (b ∷ f) = not (eqb b 44) && no_comma f
+no_comma (b ∷ f) = not (b == 44) && no_comma f
 
+-- what passes the test has no comma
 pub plain_by_test : (f : List ℕ) → no_comma f ≡ true → Plain f
 plain_by_test [] h i l e = omega arith
 plain_by_test (b ∷ f) h zero l e = grind (arith, nat_tests)
-plain_by_test (b ∷ f) h (suc i) l e = plain_by_test f (and_parts (not (eqb b 44)) (no_comma f) h).1 i (omega arith) e
+plain_by_test (b ∷ f) h (suc i) l e = plain_by_test f (grind arith) i (omega arith) e
 
+-- four fields between commas are read as they are
 pub fields_four : (w a b c : List ℕ) → Plain w → Plain a → Plain b → Plain c → fields (commas (w ∷ a ∷ b ∷ c ∷ [])) ≡ w ∷ a ∷ b ∷ c ∷ []
-fields_four w a b c p q r s =
-    fields_next w _ p ∙ ap (λ t. w ∷ t) (fields_next a _ q ∙ ap (λ t. a ∷ t) (fields_next b c r ∙ ap (λ t. b ∷ t) (fields_last c s)))
+fields_four w a b c p q r s = rw (fields_next w _ p, fields_next a _ q, fields_next b c r, fields_last c s) refl
 
+-- a line has a field
 fields_some : (bs : List ℕ) → 0 < length (fields bs)
 fields_some [] = omega arith
-fields_some (b ∷ bs) = split (eqb b 44) (fields bs) (fields_some bs)
+fields_some (b ∷ bs) = split (b == 44) (fields bs) (fields_some bs)
   where
-    split : (t : Bool) (fs : List (List ℕ)) → 0 < length fs → 0 < length (cond t ([] ∷ fs) (onto b fs))
+    split : (t : Bool) (fs : List (List ℕ)) → 0 < length fs → 0 < length (if t then [] ∷ fs else onto b fs)
     split true fs h = omega arith
     split false [] h = h
     split false (f ∷ fs) h = omega arith
@@ -52,36 +56,31 @@ fields_some (b ∷ bs) = split (eqb b 44) (fields bs) (fields_some bs)
 -- a line is its fields with commas between them
 pub commas_fields : (bs : List ℕ) → commas (fields bs) ≡ bs
 commas_fields [] = refl
-commas_fields (b ∷ bs) = split (eqb b 44) refl (fields bs) (fields_some bs) (commas_fields bs)
+commas_fields (b ∷ bs) = split (b == 44) refl (fields bs) (fields_some bs) (commas_fields bs)
   where
-    split : (t : Bool) → eqb b 44 ≡ t → (fs : List (List ℕ)) → 0 < length fs → commas fs ≡ bs → commas (cond t ([] ∷ fs) (onto b fs)) ≡ b ∷ bs
+    split : (t : Bool) → (b == 44) ≡ t → (fs : List (List ℕ)) → 0 < length fs → commas fs ≡ bs → commas (if t then [] ∷ fs else onto b fs) ≡ b ∷ bs
     split t e [] h is = absurd (omega arith)
-    split true e (f ∷ fs) h is = ap (λ x. x ∷ commas (f ∷ fs)) (sym (eqb-true b 44 e)) ∙ ap (λ x. b ∷ x) is
-    split false e (f ∷ []) h is = ap (λ x. b ∷ x) is
-    split false e (f ∷ g ∷ fs) h is = ap (λ x. b ∷ x) is
+    split true e (f ∷ fs) h is = let c = eqb-true b 44 e in cc
+    split false e (f ∷ []) h is = cc
+    split false e (f ∷ g ∷ fs) h is = cc
 
-plain_take : (k : ℕ) (bs : List ℕ) → ((i : ℕ) → i < k → get_or bs i 0 ≡ 44 → ⊥) → Plain (take k bs)
+-- what stands before the first comma
+plain_take : (k : ℕ) (bs : List ℕ) → ((i : ℕ) → i < k → get_or bs i 0 ≢ 44) → Plain (take k bs)
 plain_take k bs before i h e =
     let l : i < k = omega (arith, length-take k bs) in before i l (sym (get_or-take k bs i 0 l) ∙ e)
 
 -- the first field is what stands before the first comma
-first_field : (k : ℕ) (bs : List ℕ) → k ≤ length bs → ((i : ℕ) → i < k → get_or bs i 0 ≡ 44 → ⊥) → (k < length bs → get_or bs k 0 ≡ 44) → fields bs ≡ take k bs ∷ fields_from bs (k + 1)
-first_field k bs h before comma = ⊎_elim inside at_end (cases_lt k (length bs))
-  where
-    p : Plain (take k bs)
-    p = plain_take k bs before
+first_field : (k : ℕ) (bs : List ℕ) → k ≤ length bs → ((i : ℕ) → i < k → get_or bs i 0 ≢ 44) → (k < length bs → get_or bs k 0 ≡ 44) → fields bs ≡ take k bs ∷ fields_from bs (k + 1)
+first_field k bs h before comma =
+    let p = plain_take k bs before in
+    elim (cases_lt k (length bs)) [
+      | inl l ↦
+          let parts = rw (drop_more bs k 0 l, comma l) at (take-append-drop k bs) in
+          ap fields (sym parts) ∙ fields_next (take k bs) (drop (k + 1) bs) p ∙ grind (arith, nat_tests)
+      | inr l ↦ ap fields (sym (take_all k bs l)) ∙ fields_last (take k bs) p ∙ grind (arith, nat_tests)
+    ]
 
-    inside : k < length bs → fields bs ≡ take k bs ∷ fields_from bs (k + 1)
-    inside l =
-        ap fields (sym (take-append-drop k bs) ∙ ap (λ t. take k bs ++ t) (drop_more bs k 0 l ∙ ap (λ b. b ∷ drop (k + 1) bs) (comma l)))
-        ∙ fields_next (take k bs) (drop (k + 1) bs) p
-        ∙ ap (λ t. take k bs ∷ t) (sym (cond-true (leb (k + 1) (length bs)) _ _ (le-leb (k + 1) (length bs) (omega arith))))
-
-    at_end : length bs ≤ k → fields bs ≡ take k bs ∷ fields_from bs (k + 1)
-    at_end l =
-        ap fields (sym (take_all k bs l)) ∙ fields_last (take k bs) p
-        ∙ ap (λ t. take k bs ∷ t) (sym (cond-false (leb (k + 1) (length bs)) _ _ (lt-leb (k + 1) (length bs) (omega arith))))
-
+-- the fields of what is left of a line
 fields_from_drop : (line : List ℕ) (start n : ℕ) → start ≤ length line → fields_from (drop start line) n ≡ fields_from line (start + n)
 fields_from_drop line start n h =
     let l = length-drop start line in
@@ -90,19 +89,14 @@ fields_from_drop line start n h =
 
 -- where the first comma stands, or the end
 first_comma : (bs : List ℕ) (r : Option ℕ) (n : ℕ) → IsFirstByte (is_byte 44) bs r → n ≡ unwrap_or r (length bs) → fields bs ≡ take n bs ∷ fields_from bs (n + 1)
-first_comma bs None n f is = first_field n bs (omega arith) (λ i l e. f i (omega arith) (omega arith) (grind (arith, nat_tests))) (λ l. absurd (omega arith))
-first_comma bs (Some m) n f is =
-    let low = f.0.low in
-    let high = f.0.high in
-    first_field n bs (omega arith)
-    (λ i l e. f.0.before i (omega arith) (omega arith) (grind (arith, nat_tests)))
-    (λ l. let h = f.1 in ap (λ k. get_or bs k 0) is ∙ grind (arith, nat_tests))
+first_comma bs None n f is = first_field n bs (omega arith) (λ i l e. grind (arith, nat_tests, f i)) (λ l. absurd (omega arith))
+first_comma bs (Some m) n f is = first_field n bs (omega (arith, f.0.high)) (λ i l e. grind (arith, nat_tests, f.0.before i)) (λ l. rw is (grind (arith, nat_tests, f.1)))
 
+-- what the reader answers
 pub fields_first : (line rest : List ℕ) (start : ℕ) (r : Option ℕ) (n : ℕ) → start ≤ length line → rest ≡ slice_range line start (length line) → IsFirstByte (is_byte 44) rest r → n ≡ unwrap_or r (length rest)
     → fields_from line start ≡ take n rest ∷ fields_from line (start + (n + 1))
 fields_first line rest start r n h e f is =
     let whole = e ∙ take_rest line start in
-    cond-true (leb start (length line)) _ _ (le-leb start (length line) h)
-    ∙ ap fields (sym whole)
-    ∙ first_comma rest r n f is
-    ∙ ap (λ t. take n rest ∷ t) (ap (λ xs. fields_from xs (n + 1)) whole ∙ fields_from_drop line start (n + 1) h)
+    let first = first_comma rest r n f is in
+    let later = fields_from_drop line start (n + 1) h in
+    grind (arith, nat_tests)

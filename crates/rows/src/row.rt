@@ -66,6 +66,7 @@ pub struct Row<'t> {
 }
 
 // Writes `piece` at `end`, whole or not at all, and returns where it ends.
+#[tactic(auto, using(crate::proofs::Writing::put_mid_written))]
 fn write_at(bytes: &mut [u8], end: usize, piece: &[u8]) -> Result<usize, Fault>
     ensures { MatchResult result
         (λ after. Extended (text_to bytes.old end) piece.now (text_to bytes.new after))

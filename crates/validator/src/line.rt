@@ -31,6 +31,7 @@ fn check_change(change: Change) -> Result<(), Fault>
     Ok(())
 }
 
+#[tactic(auto, using(crate::proofs::Verdicts::verdict))]
 fn check_meaning(number: u32, line: &[u8]) -> Result<(), Fault>
     ensures { result ≡ unless_refused (meaning_refusal (line_meaning number line.now)) tt }
 {
@@ -49,6 +50,7 @@ pub fn check_line(number: u32, line: &[u8]) -> Result<(), Fault>
 }
 
 // A `match`, which keeps the range of the number for the proof.
+#[tactic(auto, using(crate::proofs::Rows::number_short))]
 fn lift_field(lift: Option<u32>) -> Field
     ensures value { result ≡ lift_field lift }
     ensures short { length (field_text result) ≤ 10 }
@@ -60,6 +62,7 @@ fn lift_field(lift: Option<u32>) -> Field
 }
 
 // Writes the row of a fault, whole or not at all.
+#[tactic(auto, using(crate::proofs::Rows::fault_row_short))]
 pub(crate) fn write_fault(
     bytes: &mut [u8],
     cursor: &mut Cursor,

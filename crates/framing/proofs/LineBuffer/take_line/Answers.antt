@@ -1,6 +1,5 @@
-use Rattle.std.proofs.Common.{[], ◌∷◌, ◌++◌, drop, sym, ap, ◌∙◌, subst, append_assoc}
-use Rattle.framing.specs.Buffer.{Ended}
-use Rattle.framing.proofs.Steps.{ended_more, opens_more, taken_on, taken_part, taken_twice}
+use Rattle.std.proofs.Common.{[], ◌∷◌, ◌++◌, sym, ◌∙◌, append_assoc}
+use Rattle.framing.proofs.Steps.{ended_more, opens_more, taken_on, taken_part}
 use Rattle.framing.proofs.LineBuffer.take_line.Goals as goal
 
 pub returns-then-feed-clause-line : goal.returns-then-feed-clause-line
@@ -9,19 +8,14 @@ returns-then-feed-clause-line c = λ xs o.
     let b = c.in-Some.b.now in
     let e = c.feed.ensures in
     let t = c.loop-b.invariant in
-    subst (Ended c.feed.new.self)
-    (append_assoc xs t.taken (b ∷ [])
-    ∙ ap (λ ys. xs ++ ys) (taken_part c.args.block.now t.taken c.in-Some.after.now c.args.at b (t.parts ∙ ap (λ ys. t.taken ++ ys) c.in-Some.ensures.cases.0)))
-    (ended_more v c.feed.new.self b e.keeps e.cr (xs ++ t.taken) (sym e.ends ∙ c.if-feed.true) (t.line xs o))
+    let p = taken_part c.args.block.now t.taken c.in-Some.after.now c.args.at b (rw c.in-Some.ensures.cases.0 at t.parts) in
+    rw (append_assoc xs t.taken (b ∷ []), p) at (ended_more v c.feed.new.self b e.keeps e.cr (xs ++ t.taken) (sym e.ends ∙ c.if-feed.true) (t.line xs o))
 
 pub loop-b-preserved : goal.loop-b-preserved
 loop-b-preserved c =
-    let v = c.loop-b.self in
-    let w = c.feed.new.self in
-    let z = c.take_plain-rest.new.self in
     let e = c.feed.ensures in
-    taken_on c.args.self.now v z (drop c.args.at c.args.block.now) c.loop-b.rest.now c.take_plain-rest.result.now c.loop-b.invariant
-    (taken_twice v w z c.loop-b.rest.now c.in-Some.after.now c.take_plain-rest.result.now c.in-Some.b.now
-    (λ xs o. opens_more v w c.in-Some.b.now e.keeps e.cr xs (sym e.ends ∙ c.if-feed.false) o)
-    c.in-Some.ensures.cases.0
-    c.take_plain-rest.ensures)
+    taken_on c.loop-b.invariant (taken_on {v = c.loop-b.self} {w = c.feed.new.self} (record {
+      taken = c.in-Some.b.now ∷ [];
+      parts = c.in-Some.ensures.cases.0;
+      line = λ xs o. opens_more _ _ _ e.keeps e.cr xs (sym e.ends ∙ c.if-feed.false) o;
+    }) c.take_plain-rest.ensures)

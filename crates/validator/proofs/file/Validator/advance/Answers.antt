@@ -1,22 +1,17 @@
-use Rattle.std.proofs.Common.{◌≡◌, ◌+◌, ◌-◌, ◌≤◌, length, take, drop, sym, refl, subst, arith, rules}
+use Rattle.std.proofs.Common.{◌≡◌, ◌+◌, ◌-◌, ◌≤◌, length, refl, arith, rules}
 use Rattle.rows.specs.Texts.{text_to}
-use Rattle.std.proofs.lemmas.Bool.{leb-true}
-use Rattle.validator.specs.Progress.{Further}
+use Rattle.std.proofs.lemmas.Bool.Decides.{nat_tests}
 use Rattle.validator.proofs.Moves.{further_twice, none_further, part_more}
 use Rattle.validator.proofs.file.Validator.advance.Goals as goal
 
 pub loop-place-init : goal.loop-place-init
 loop-place-init c =
-    let at = c.args.at in
-    let block = c.args.block.now in
-    let text = text_to c.args.bytes.now c.args.cursor.now.end in
-    let self = c.args.self.now in
-    let none : 0 ≡ at - at = omega arith in
+    let none : 0 ≡ c.args.at - c.args.at = omega arith in
     record {
       onward = omega arith;
       within = λ h. h;
       unmoved = λ _. (refl, refl);
-      law = λ input told v. subst (λ n. Further input told (take n (drop at block)) text text self) none (none_further input told text self v);
+      law = λ input text v. rw (← none) (none_further input text _ c.args.self.now v);
     }
 
 pub loop-place-preserved : goal.loop-place-preserved
@@ -38,8 +33,8 @@ loop-place-preserved c =
       unmoved = λ e. absurd (omega arith);
       law = λ input text v.
           let f = done.law input text v in
-          let room = leb-true (c.loop-place.cursor.end + 64) (length c.loop-place.bytes) (sym c.if-has_room.ensures) in
+          let room : c.loop-place.cursor.end + 64 ≤ length c.loop-place.bytes = grind (arith, nat_tests) in
           let h : c.args.cursor.now.end ≤ length c.args.bytes.now = omega (arith, f.end, room, c.loop-place.auto.bytes) in
-          subst (λ t. Further input text t before after is) (part_more block at place next (omega arith) (omega arith))
+          rw (← part_more block at place next (omega arith) (omega arith))
           (further_twice input text _ _ before middle after was is h f c.step-place.ensures.law);
     }

@@ -1,5 +1,4 @@
-use Rattle.std.proofs.Common.{◌-◌, ◌++◌, length, take, drop, sym, refl, subst, rules}
-use Rattle.framing.specs.Buffer.{Opens}
+use Rattle.std.proofs.Common.{◌-◌, length, take, drop, refl, rules}
 use Rattle.rows.specs.Texts.{text_to}
 use Rattle.std.proofs.lemmas.List.{take_rest}
 use Rattle.validator.proofs.Moves.{line_closed, line_open}
@@ -24,6 +23,6 @@ returns-in-None-clause-law c =
     let line = c.take_line.new.self in
     λ input text v.
     line_open input text (take (length block - at) (drop at block)) (text_to c.args.bytes.now c.args.cursor.now.end) c.args.self.now _ v
-    (subst (λ t. Opens line (v.rest ++ t)) (sym (take_rest block at)) (c.in-None.ensures.line v.rest v.opens))
+    (rw (take_rest block at) (c.in-None.ensures.line v.rest v.opens))
     refl
     refl
