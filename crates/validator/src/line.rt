@@ -49,16 +49,12 @@ pub fn check_line(number: u32, line: &[u8]) -> Result<(), Fault>
     check_meaning(number, line)
 }
 
-// A `match`, which keeps the range of the number for the proof.
 #[tactic(auto, using(crate::proofs::Rows::number_short))]
 fn lift_field(lift: Option<u32>) -> Field
     ensures value { result ≡ lift_field lift }
     ensures short { length (field_text result) ≤ 10 }
 {
-    match lift {
-        Some(lift) => Field::Number(lift),
-        None => Field::Empty,
-    }
+    lift.map_or(Field::Empty, Field::Number)
 }
 
 // Writes the row of a fault, whole or not at all.

@@ -4,7 +4,7 @@ use Rattle.lifts.specs.declared.fault.Fault.{Fault}
 use Rattle.rows.specs.Fields.{field_text}
 use Rattle.rows.specs.Texts.{Extended, Text, line_end, pieces, text_to}
 use Rattle.rows.specs.declared.field.Field.{Field}
-use Rattle.rows.proofs.Pieces.{Stopped, extended_twice, full_behind, full_more, stops, stops_later}
+use Rattle.rows.proofs.Pieces.{Stopped, extended_twice, full_more, stops, stops_later}
 use Rattle.row_borrows.specs.TwoRows.{TwoRows, end_with, one_row}
 use Rattle.row_borrows.proofs.write_two_rows.Goals.{After-begin_row-second, In_ok-put}
 use Rattle.row_borrows.proofs.write_two_rows.Goals as goal
@@ -30,14 +30,6 @@ returns-in_err-put c =
     let h = rw (b.bytes.0, b.cursor.0, b.row.1) at c.in_err-put.ensures.text in
     let full = full_more _ _ line_end _ h.0 in
     let w = stopped _ (text_to c.put.new.self.bytes.now c.put.new.self.start) c.args.one c.args.other _ (stops _ _ _ _ _ h.0 h.1) (grind (arith, nat_tests, full.short)) in
-    search rules
-
-pub returns-in_err-finish : goal.returns-in_err-finish
-returns-in_err-finish c =
-    let e = one_put (goal.at.returns-in_err-finish c).In_ok-put in
-    let h = c.in_err-finish.ensures.text in
-    let full = full_behind _ _ _ _ _ e h.0 in
-    let w = stopped _ (text_to c.finish.new.self.bytes.now c.finish.new.self.start) c.args.one c.args.other _ (stops_later _ _ _ _ _ _ e (stops _ _ _ _ _ h.0 h.1)) (grind (arith, nat_tests, full.short)) in
     search rules
 
 pub returns-in_err-put-2 : goal.returns-in_err-put-2

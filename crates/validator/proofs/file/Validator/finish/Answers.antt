@@ -1,4 +1,4 @@
-use Rattle.std.proofs.Common.{refl, arith}
+use Rattle.std.proofs.Common.{refl, arith, rules}
 use Rattle.std.proofs.lemmas.Bool.Decides.{nat_tests}
 use Rattle.validator.proofs.Moves.{last_ended, last_reported, reading_ended}
 use Rattle.validator.proofs.file.Validator.finish.Goals as goal
@@ -11,10 +11,9 @@ returns-then-not-is_open-clause-cases c = λ input text v. last_ended input text
 
 pub returns-clause-cases : goal.returns-clause-cases
 returns-clause-cases c =
-    let closed = c.close_line.ensures in
     λ input text v.
     let begun = c.if-not-is_open.ensures.line v.rest v.opens in
     last_reported input text _ _ c.args.self.now c.close_line.new.self c.end.new.self (grind (arith, nat_tests)) v
     (λ e. absurd (let f = begun.1 e in cc))
     (c.end.ensures.line v.rest v.opens)
-    (record { numbers = closed.numbers; counts = closed.counts; text = closed.text })
+    (search rules)

@@ -9,12 +9,11 @@ returns-in-Some-clause-law c =
     let taken = take (c.in-Some.next - c.args.at) (drop c.args.at c.args.block.now) in
     let before = text_to c.args.bytes.now c.args.cursor.now.end in
     let after = text_to c.close_line.new.bytes c.close_line.new.cursor.end in
-    let closed = c.close_line.ensures in
     λ input text v.
     line_closed input text taken before after c.args.self.now c.close_line.new.self c.take_line.new.self (search rules) v
     (c.in-Some.ensures.line v.rest v.opens)
-    (record { numbers = closed.numbers; counts = closed.counts; text = closed.text })
-    closed.clears
+    (search rules)
+    c.close_line.ensures.clears
 
 pub returns-in-None-clause-law : goal.returns-in-None-clause-law
 returns-in-None-clause-law c =
