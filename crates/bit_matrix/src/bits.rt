@@ -32,10 +32,7 @@ fn lowest_bit(word: u64) -> Option<u32>
     ensures lowest { SmallestFrom (bit_of word) 0 result }
     ensures within { Below 64 result }
 {
-    if word == 0 {
-        return None;
-    }
-    Some(word.trailing_zeros())
+    (word != 0).then_some(word.trailing_zeros())
 }
 
 // The lowest bit of at least `from` that is set.
