@@ -103,10 +103,7 @@ impl LineBuffer {
         ensures fields { result ≡ (nat_lt 0 (length self.now.bytes.items) || self.now.cr) }
         ensures line { (xs : List ℕ) → Opens self.now xs → (result ≡ false → xs ≡ []) × (xs ≡ [] → result ≡ false) }
     {
-        if self.cr {
-            return true;
-        }
-        !self.bytes.is_empty()
+        self.cr || !self.bytes.is_empty()
     }
 
     // The input has ended: a CR that is held back belongs to the line.

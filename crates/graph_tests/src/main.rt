@@ -27,6 +27,5 @@ fn main(rt: HostRuntime) -> anyhow::Result<()> {
     let room = lists.capacity();
     println!(rt; "cell lists, capacity {room}")?;
     survey(&rt, &mut lists)?;
-    tell_orders(&rt)?;
-    Ok(())
+    tell_orders(&rt)
 }

@@ -49,6 +49,5 @@ pub fn tell_orders(rt: &HostRuntime) -> anyhow::Result<()> {
     print!(rt; "first by due:")?;
     tell_first(rt, &ByDue, &lifts)?;
     print!(rt; "first by class:")?;
-    tell_first(rt, &ByClass::new(RANKS), &lifts)?;
-    Ok(())
+    tell_first(rt, &ByClass::new(RANKS), &lifts)
 }

@@ -50,8 +50,8 @@ fn read_arguments<K: ChangeKind>(reader: &mut FieldReader) -> Option<K::Argument
 fn read_as<K: ChangeKind>(reader: &mut FieldReader) -> Option<Change>
     ensures { result ≡ reads_as K.FILLED K.built K.meant (fields_of reader.old) }
 {
-    let arguments = read_arguments::<K>(reader)?;
-    Some(K::change(arguments))
+    // A closure, since the borrow checker does not take a trait's function here yet.
+    read_arguments::<K>(reader).map(|arguments| K::change(arguments))
 }
 
 // The change that the fields of a line mean.

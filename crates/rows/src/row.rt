@@ -55,9 +55,8 @@ impl Cursor {
     }
 }
 
-// An open row: `start` is where it began, and `first` says that it has no field yet, which the two ends do not tell where a
-// field is empty. Its drop takes an
-// unfinished row out of the text again.
+// An open row. `start` is where it began; `first` says that it has no field yet, which the two ends do not tell where a
+// field is empty. Its drop takes an unfinished row out of the text again.
 pub struct Row<'t> {
     bytes: &'t mut [u8],
     cursor: &'t mut Cursor,
@@ -129,8 +128,7 @@ impl Row<'_> {
         for field in fields {
             self.put(*field)?;
         }
-        self.finish()?;
-        Ok(())
+        self.finish()
     }
 }
 
@@ -155,6 +153,5 @@ pub fn write_row(bytes: &mut [u8], cursor: &mut Cursor, fields: &[Field]) -> Res
     ensures { WholeRow (text_to bytes.old cursor.old.end) fields.now (text_to bytes.new cursor.new.end) result }
 {
     let mut row = cursor.begin_row(bytes);
-    row.put_row(fields)?;
-    Ok(())
+    row.put_row(fields)
 }

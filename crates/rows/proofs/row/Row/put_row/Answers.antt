@@ -1,7 +1,7 @@
-use Rattle.std.proofs.Common.{◌≡◌, ℕ, List, [], ◌∷◌, true, Err, ◌∙◌, rules}
+use Rattle.std.proofs.Common.{◌≡◌, ℕ, List, [], ◌∷◌, true, Ok, Err, Result, MatchResult, ◌∙◌, rules}
 use Rattle.std.proofs.lemmas.List.{drop_all, drop_more}
 use Rattle.lifts.specs.declared.fault.Fault.{Fault}
-use Rattle.rows.specs.Texts.{Extended, Full, Text, WholeRow, line_end, pieces, row_text, text_to}
+use Rattle.rows.specs.Texts.{Appended, Extended, Full, Text, WholeRow, line_end, pieces, row_text, text_to}
 use Rattle.rows.specs.declared.field.Field.{Field}
 use Rattle.rows.specs.declared.field.Field.TheVariants.{Empty}
 use Rattle.rows.proofs.Pieces.{Led, led_more, row_pieces, stopped_text, stops}
@@ -17,6 +17,11 @@ unfinished a b fs q qs bs e f l h same s =
 finished : (a b c : Text) (fs : List Field) (e : ℕ) → Led a (pieces true fs) b (line_end ∷ []) → Extended b line_end c → e ≡ c.end → Extended a (row_text fs) (text_to c.bytes e)
 finished a b c fs e l h s = let w = rw (row_pieces fs) at (l.done c h) in record { fits = w.fits; bytes = w.bytes; end = s ∙ w.end }
 
+-- so the line's end finishes it, or leaves it unfinished
+ended : (a b c : Text) (fs : List Field) (s e : ℕ) (r : Result (Unit {0}) Fault) (P Q : Type 0) → Led a (pieces true fs) b (line_end ∷ []) → s ≡ a.end → Appended b line_end c r → MatchResult r (λ _. (e ≡ c.end) × P) (λ _. (e ≡ s) × Q) → WholeRow a fs (text_to c.bytes e) r
+ended a b c fs s e (Ok _) P Q l same h k = finished a b c fs e l h k.0
+ended a b c fs s e (Err f) P Q l same h k = unfinished a b fs line_end [] c.bytes e f l h.0 h.1 (k.0 ∙ same)
+
 pub loop-field-preserved : goal.loop-field-preserved
 loop-field-preserved c =
     let e = c.in_ok-put.ensures in
@@ -30,15 +35,8 @@ returns-in_err-put-clause-text c =
     let w = unfinished _ _ _ _ _ _ c.put.new.self.start _ l h.0 h.1 (search rules) in
     search rules
 
-pub returns-in_err-finish-clause-text : goal.returns-in_err-finish-clause-text
-returns-in_err-finish-clause-text c =
-    let h = c.in_err-finish.ensures.text in
-    let l = rw (drop_all _ c.args.fields.now c.loop-field-test.false) at c.loop-field.invariant.led in
-    let w = unfinished _ _ _ _ _ _ c.finish.new.self.start _ l h.0 h.1 (search rules) in
-    search rules
-
 pub returns-clause-text : goal.returns-clause-text
 returns-clause-text c =
-    let e = c.in_ok-finish.ensures in
+    let e = c.finish.ensures in
     let l = rw (drop_all _ c.args.fields.now c.loop-field-test.false) at c.loop-field.invariant.led in
-    finished _ _ _ _ _ l e.text e.row.0
+    ended _ _ _ _ _ _ _ _ _ l (search rules) e.text e.row
