@@ -2,8 +2,6 @@
 use Rattle.std.proofs.Common.{◌≡◌, ◌≢◌, ◌==◌, if◌then◌else◌, ℕ, suc, ◌-◌, ◌<◌, true, false, List, [], ◌∷◌, ◌++◌, length, get_or, take, drop, sym, refl, ap, ◌∙◌, inl, inr, arith}
 use Rattle.std.proofs.lemmas.List.{append_assoc, append-nil, get_or-take, length-append, length-drop, length-take, take_at}
 use Rattle.std.proofs.lemmas.Bool.{cases_Bool}
-use Rattle.std.specs.Prelude.{Option, None, Some, unwrap_or}
-use Rattle.memchr.specs.Find.{IsFirstByte, is_byte}
 use Rattle.std.proofs.lemmas.Bool.Decides.{nat_tests}
 use Rattle.framing.specs.Buffer.{Ended, Keeps, Opens, Takes, body_after, ends, ends_in_cr, held}
 use Rattle.framing.specs.declared.LineBuffer.{LineBuffer}
@@ -88,10 +86,9 @@ taken_on {v} {w} {z} {bytes} {middle} {rest} s t =
       line = λ xs o. rw (append_assoc xs s.taken t.taken) at (t.line (xs ++ s.taken) (s.line xs o));
     }
 
--- Before the first CR there is none.
-pub before_cr : (bytes : List ℕ) (r : Option ℕ) (n : ℕ) → IsFirstByte (is_byte 13) bytes r → n ≡ unwrap_or r (length bytes) → (k : ℕ) → k < length (take n bytes) → get_or (take n bytes) k 0 ≢ 13
-before_cr bytes None n f is k l e = grind (arith, nat_tests, length-take n bytes, get_or-take n bytes k 0, f k)
-before_cr bytes (Some m) n f is k l e = grind (arith, nat_tests, length-take n bytes, get_or-take n bytes k 0, f.0.before k)
+-- What is said of the first bytes holds of them as a list.
+pub plain_taken : (bytes : List ℕ) (n : ℕ) → ((k : ℕ) → k < n → get_or bytes k 0 ≢ 13) → (k : ℕ) → k < length (take n bytes) → get_or (take n bytes) k 0 ≢ 13
+plain_taken bytes n f k l = grind (arith, nat_tests, length-take n bytes, get_or-take n bytes k 0, f k)
 
 -- The part of a block from a place to a byte.
 pub taken_part : (block taken after : List ℕ) (at b : ℕ) → drop at block ≡ taken ++ (b ∷ after) → taken ++ (b ∷ []) ≡ take (length block - length after - at) (drop at block)

@@ -3,7 +3,7 @@
 
 pub mod laws;
 
-ghost use Rattle.std.specs.Prelude.{◌≡◌, ℕ, ◌-◌, ◌<◌, ◌≤◌, false, ◌||◌, List, [], ◌∷◌, ◌++◌, length, take, drop, IfSome, MatchOption, ◌==◌, nat_lt};
+ghost use Rattle.std.specs.Prelude.{◌≡◌, ◌≢◌, ℕ, ◌-◌, ◌<◌, ◌≤◌, false, ◌||◌, List, [], ◌∷◌, ◌++◌, length, get_or, take, drop, IfSome, MatchOption, ◌==◌, nat_lt};
 ghost use Rattle.framing.specs.Buffer.{Ended, Keeps, Opens, Takes, body_after, ends, held};
 
 use arrayvec::ArrayVec;
@@ -13,6 +13,9 @@ use std::mem;
 const CR: u8 = b'\r';
 
 const LF: u8 = b'\n';
+
+// A change line's end is about so near.
+const NEAR: usize = 16;
 
 // The line that is being read: its first bytes, one more than a line may have, so that a reader knows that it is too long.
 #[derive(Drop)]
@@ -43,11 +46,14 @@ impl LineBuffer {
         let _ = self.bytes.try_extend_from_slice(&bytes[..kept]);
     }
 
+    #[tactic(auto, using(crate::proofs::Bytes::keeps_one, crate::proofs::Bytes::keeps_full, std::proofs::lemmas::Grind::common_steps))]
     fn push(&mut self, b: u8)
         ensures keeps { (body : List ℕ) → Keeps self.old body → Keeps self.new (body ++ (b ∷ [])) }
         ensures cr { self.new.cr ≡ self.old.cr }
     {
-        self.push_all(&[b]);
+        if !self.bytes.is_full() {
+            self.bytes.push(b);
+        }
     }
 
     // Does the line end with this byte?
@@ -69,14 +75,14 @@ impl LineBuffer {
         ends
     }
 
-    // Takes the bytes that cannot end the line, up to a CR, and answers the rest. Where a CR is held back it takes none.
+    // Takes the bytes that cannot end the line, up to a CR, and answers the rest. Where a CR is held back it takes none, and where one comes next there is none to copy.
     fn take_plain<'b>(&mut self, bytes: &'b [u8]) -> &'b [u8]
         ensures { Takes self.old self.new bytes.now result.now }
     {
-        if self.cr {
+        if self.cr || bytes.first() == Some(&CR) {
             return bytes;
         }
-        let (plain, rest) = bytes.split_at(memchr(CR, bytes).unwrap_or(bytes.len()));
+        let (plain, rest) = bytes.split_at(plain_len(bytes));
         self.push_all(plain);
         rest
     }
@@ -117,12 +123,12 @@ impl LineBuffer {
         }
     }
 
-    // On to the next line.
+    // On to the next line. A new buffer is made in a few steps, and to blank the old one is a call.
     pub fn clear(&mut self)
         ensures fields { (self.new.bytes.items ≡ []) × (self.new.cr ≡ false) }
         ensures line { Opens self.new [] }
     {
-        self.bytes.clear();
+        self.bytes = ArrayVec::new();
         self.cr = false;
     }
 
@@ -130,7 +136,21 @@ impl LineBuffer {
     pub fn get(&self) -> &[u8]
         ensures bytes { result.now ≡ self.now.bytes.items }
         ensures line { (body : List ℕ) → Keeps self.now body → result.now ≡ take 65 body }
+        ensures short { length result.now ≤ 65 }
     {
         self.bytes.as_slice()
+    }
+}
+
+// How many bytes stand before the first CR, or all of them. A near CR is found sooner one byte at a time, since a long search is slow to begin.
+fn plain_len(bytes: &[u8]) -> usize
+    ensures within { result ≤ length bytes.now }
+    ensures plain { (k : ℕ) → k < result → get_or bytes.now k 0 ≢ 13 }
+    ensures cr { result < length bytes.now → get_or bytes.now result 0 ≡ 13 }
+{
+    let (near, far) = bytes.split_at(bytes.len().min(NEAR));
+    match near.iter().position(|b| *b == CR) {
+        Some(n) => n,
+        None => near.len() + memchr(CR, far).unwrap_or(far.len()),
     }
 }
