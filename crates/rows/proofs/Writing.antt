@@ -1,7 +1,7 @@
 -- What stands where after a piece was written.
 use Rattle.std.proofs.Common.{◌≡◌, ℕ, ◌+◌, ◌≤◌, List, [], ◌++◌, length, take, drop, refl, append_assoc, arith}
 use borrow.Rule.Slice.PartMut.{put_mid}
-use Rattle.std.proofs.lemmas.List.{length-append, length-take-le, length-drop, take-append-drop, take-append-le, take-take, take_at, drop-drop}
+use Rattle.std.proofs.lemmas.List.{drop_at, length-append, length-take-le, length-drop, take-append-drop, take-append-le, take-take, take_at, drop-drop}
 use Rattle.std.proofs.lemmas.Slice.{drop-append-drop}
 use Rattle.rows.specs.Texts.{written}
 
@@ -26,6 +26,11 @@ pub text_written : (bs : List ℕ) (e : ℕ) (p : List ℕ) → e ≤ length bs 
 unfolding written
 text_written bs e p l =
     rw (← append_assoc) (take_at (take e bs ++ p) _ _ (simp (length-append, length-take-le)))
+
+-- the piece, and what stands behind it
+pub drop_written : (bs : List ℕ) (e : ℕ) (p : List ℕ) → e ≤ length bs → drop e (written bs e p) ≡ p ++ drop (e + length p) bs
+unfolding written
+drop_written bs e p l = drop_at (take e bs) _ e (length-take-le e bs l)
 
 -- the bytes behind the piece
 pub behind_written : (bs : List ℕ) (e : ℕ) (p : List ℕ) (k : ℕ) → e + length p ≤ k → e ≤ length bs → drop k (written bs e p) ≡ drop k bs

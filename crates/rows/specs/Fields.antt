@@ -1,5 +1,5 @@
 -- The bytes of a field.
-use Rattle.std.specs.Prelude.{ℕ, List, [], codes, decimal}
+use Rattle.std.specs.Prelude.{ℕ, List, [], codes, decimal, None, Some, Option}
 use Rattle.lifts.specs.Faults.{refusal_text}
 use Rattle.lifts.specs.declared.state.State.{State}
 use Rattle.lifts.specs.declared.state.State.TheVariants as states
@@ -17,6 +17,11 @@ abbrev pub word_text : Word → List ℕ
 word_text words.Line = codes "line"
 word_text words.Lift = codes "lift"
 word_text words.State = codes "state"
+
+-- the digits of a number, if there is one
+abbrev pub number_text : Option ℕ → List ℕ
+number_text None = []
+number_text (Some n) = decimal n
 
 abbrev pub field_text : Field → List ℕ
 field_text fields.Empty = []
