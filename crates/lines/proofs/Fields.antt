@@ -3,8 +3,7 @@ use Rattle.std.proofs.Common.{◌≡◌, ◌==◌, if◌then◌else◌, ℕ, zer
 use Rattle.std.proofs.lemmas.List.{take-append-drop, take_all, take_rest, drop_more, drop-drop, get_or-take, length-drop, length-take}
 use Rattle.std.proofs.lemmas.Bool.{cases_lt, eqb-true}
 use Rattle.std.proofs.lemmas.Bool.Decides.{nat_tests}
-use Rattle.std.specs.Prelude.{Option, None, Some, slice_range, unwrap_or}
-use Rattle.memchr.specs.Find.{IsFirstByte, is_byte}
+use Rattle.std.specs.Prelude.{slice_range}
 use Rattle.lines.specs.Format.{fields, fields_from, onto}
 use Rattle.lines.specs.Text.{commas}
 
@@ -87,16 +86,12 @@ fields_from_drop line start n h =
     let e = ap fields (drop-drop n start line) in
     grind (arith, nat_tests)
 
--- where the first comma stands, or the end
-first_comma : (bs : List ℕ) (r : Option ℕ) (n : ℕ) → IsFirstByte (is_byte 44) bs r → n ≡ unwrap_or r (length bs) → fields bs ≡ take n bs ∷ fields_from bs (n + 1)
-first_comma bs None n f is = first_field n bs (omega arith) (λ i l e. grind (arith, nat_tests, f i)) (λ l. absurd (omega arith))
-first_comma bs (Some m) n f is = first_field n bs (omega (arith, f.0.high)) (λ i l e. grind (arith, nat_tests, f.0.before i)) (λ l. rw is (grind (arith, nat_tests, f.1)))
-
 -- what the reader answers
-pub fields_first : (line rest : List ℕ) (start : ℕ) (r : Option ℕ) (n : ℕ) → start ≤ length line → rest ≡ slice_range line start (length line) → IsFirstByte (is_byte 44) rest r → n ≡ unwrap_or r (length rest)
+pub fields_first : (line rest : List ℕ) (start n : ℕ) → start ≤ length line → rest ≡ slice_range line start (length line)
+    → n ≤ length rest → ((i : ℕ) → i < n → get_or rest i 0 ≢ 44) → (n < length rest → get_or rest n 0 ≡ 44)
     → fields_from line start ≡ take n rest ∷ fields_from line (start + (n + 1))
-fields_first line rest start r n h e f is =
+fields_first line rest start n h e l before comma =
     let whole = e ∙ take_rest line start in
-    let first = first_comma rest r n f is in
+    let first = first_field n rest l before comma in
     let later = fields_from_drop line start (n + 1) h in
     grind (arith, nat_tests)

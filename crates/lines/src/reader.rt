@@ -1,8 +1,6 @@
 // The fields of a line, one after another.
-ghost use Rattle.std.specs.Prelude.{◌≡◌, [], ◌∷◌, MatchOption};
+ghost use Rattle.std.specs.Prelude.{◌≡◌, ℕ, ◌<◌, ◌≤◌, [], ◌∷◌, length, ◌≢◌, get_or, MatchOption};
 ghost use Rattle.lines.specs.Format.{fields, fields_of};
-
-use memchr::memchr;
 
 const COMMA: u8 = b',';
 
@@ -11,6 +9,17 @@ const COMMA: u8 = b',';
 pub struct FieldReader<'a> {
     line: &'a [u8],
     place: usize,
+}
+
+// How long the first field is: up to a comma or the line's end. A line is short, so its bytes are tried one by one.
+fn field_len(rest: &[u8]) -> usize
+    ensures within { result ≤ length rest.now }
+    ensures before { (i : ℕ) → i < result → get_or rest.now i 0 ≢ 44 }
+    ensures comma { result < length rest.now → get_or rest.now result 0 ≡ 44 }
+{
+    rest.iter()
+        .position(|&byte| byte == COMMA)
+        .unwrap_or(rest.len())
 }
 
 impl<'a> FieldReader<'a> {
@@ -28,7 +37,7 @@ impl<'a> FieldReader<'a> {
             (λ f. fields_of self.old ≡ f.now ∷ fields_of self.new) }
     {
         let rest = self.line.get(self.place..)?;
-        let len = memchr(COMMA, rest).unwrap_or(rest.len());
+        let len = field_len(rest);
         self.place += len + 1;
         Some(&rest[..len])
     }
