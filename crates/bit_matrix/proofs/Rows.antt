@@ -7,7 +7,7 @@ use Rattle.bit_matrix.specs.Matrix.{Cleared, Framed, bit_of, capacity_of, marked
 use Rattle.bit_matrix.proofs.Words.{bit_none}
 
 -- the word of an entry
-abbrev place : ℕ → ℕ → ℕ
+abbrev pub place : ℕ → ℕ → ℕ
 place x y = x * 8 + y / 64
 
 pub marked_short : (ws : List ℕ) (x y : ℕ) → suffices ws ≡ false → marked ws x y ≡ false
@@ -27,7 +27,7 @@ row_bits ws a k i la li =
     let none = bit_none i in
     rw (word, column) (grind (arith, nat_tests))
 
-marked_clear : (ws : List ℕ) → (suffices ws ≡ true → (k : ℕ) → k < 4096 → get_or ws k 0 ≡ 0) → (x y : ℕ) → marked ws x y ≡ false
+pub marked_clear : (ws : List ℕ) → (suffices ws ≡ true → (k : ℕ) → k < 4096 → get_or ws k 0 ≡ 0) → (x y : ℕ) → marked ws x y ≡ false
 unfolding marked
 marked_clear ws h x y =
     let none = bit_none (y % 64) in

@@ -1,11 +1,12 @@
 -- Going along a row word by word.
 use Rattle.std.proofs.Common.{◌≡◌, ℕ, zero, suc, ◌+◌, ◌-◌, ◌*◌, ◌/◌, ◌%◌, ◌<◌, ◌≤◌, Bool, false, Some, None, List, [], ◌∷◌, length, drop, get_or, sym, ap, ◌∙◌, inl, inr, arith}
 use Rattle.std.proofs.lemmas.Bool.{cases_lt, cond_both}
-use Rattle.std.proofs.lemmas.List.{get_or_past, length-take}
+use Rattle.std.proofs.lemmas.List.{get_or-drop, get_or_past, length-drop, length-take, take_rest}
 use Rattle.std.proofs.lemmas.List.Sums.{sum_by-cons}
 use Rattle.conflicts.specs.Counting.{bit, count}
 use Rattle.conflicts.specs.Graphs.{SmallestFrom, degree}
 use Rattle.conflicts.proofs.Sums.{count_none, count_same, sum_split}
+use Rattle.std.specs.Prelude.{slice_range}
 use Rattle.bit_matrix.specs.Matrix.{bit_of, marked, row_of, suffices, weight_of}
 use Rattle.bit_matrix.proofs.Rows.{row_bits}
 use Rattle.bit_matrix.proofs.Words.{bit_none}
@@ -37,6 +38,29 @@ row_degree ws a l =
     let short : length (row_of ws a) ≤ 8 =
     cond_both (suffices ws) _ _ (λ row. length row ≤ 8) (λ _. omega (arith, length-take 8 (drop (a * 8) ws))) (λ _. omega arith) in
     row_weighs 8 (row_of ws a) (marked ws a) short (λ k i. row_bits ws a k i l)
+
+-- the words of a row from a place on
+later_word : (row rest : List ℕ) (start k : ℕ) → rest ≡ slice_range row start (length row) → get_or rest k 0 ≡ get_or row (start + k) 0
+later_word row rest start k e = ap (λ l. get_or l k 0) (e ∙ take_rest row start) ∙ get_or-drop start row k 0
+
+-- the first of them, and those behind it
+module _ (row rest later : List ℕ) (start w : ℕ) (e : rest ≡ slice_range row start (length row)) (p : rest ≡ w ∷ later) where
+  pub first_word : w ≡ get_or row start 0
+  first_word =
+      let n : start + 0 ≡ start = omega arith in
+      sym (ap (λ l. get_or l 0 0) p) ∙ later_word row rest start 0 e ∙ ap (λ i. get_or row i 0) n
+
+  pub next_word : (k : ℕ) → get_or later k 0 ≡ get_or row (start + 1 + k) 0
+  next_word k =
+      let n : start + suc k ≡ start + 1 + k = omega arith in
+      sym (ap (λ l. get_or l (suc k) 0) p) ∙ later_word row rest start (suc k) e ∙ ap (λ i. get_or row i 0) n
+
+  pub row_long : length row ≡ start + 1 + length later
+  row_long = omega (arith, ap length p, ap length (e ∙ take_rest row start), length-drop start row)
+
+-- there are none
+pub no_words : (row rest : List ℕ) (start : ℕ) → rest ≡ slice_range row start (length row) → length rest ≡ 0 → length row ≤ start
+no_words row rest start e none = omega (arith, none, ap length (e ∙ take_rest row start), length-drop start row)
 
 -- None from `from` on stands in row a before word k.
 module _ (ws : List ℕ) (a k from : ℕ) (la : a < 512) (before : (q : ℕ) → from ≤ q → q < k * 64 → marked ws a q ≡ false) where

@@ -28,7 +28,7 @@ fn bits_from(word: u64, from: u32) -> u64
     word & u64::MAX.unbounded_shl(from)
 }
 
-fn lowest_bit(word: u64) -> Option<u32>
+pub(crate) fn lowest_bit(word: u64) -> Option<u32>
     ensures lowest { SmallestFrom (bit_of word) 0 result }
     ensures within { Below 64 result }
 {

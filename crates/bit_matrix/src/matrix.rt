@@ -7,7 +7,7 @@ ghost use Rattle.conflicts.specs.Refusals.{memory_refusal};
 ghost use Rattle.bit_matrix.specs.Matrix.{Cleared, Framed, capacity_of, marked, row_of, suffices, weight_of, with_entry, with_pair};
 ghost use Rattle.bit_matrix.specs.Laws.{framed_on, framed_same, marked_bounded};
 
-use super::bits::{has_bit, next_bit, weight, with_bit};
+use super::bits::{has_bit, lowest_bit, next_bit, weight, with_bit};
 use conflicts::{ALL_PAIRS, ConflictGraph, check_memory};
 use lifts::{Fault, Layer, LiftNumber, LiftPair};
 
@@ -129,11 +129,15 @@ impl<'a> BitMatrix<'a> {
         ensures next { SmallestFrom (marked self.now.words.now a.value) from result }
         ensures within { Below 512 result }
     {
-        for (k, word) in self.row(a).iter().enumerate() {
-            // The column of the word's lowest bit.
-            let first = k as u32 * 64;
-            if let Some(i) = next_bit(*word, from.saturating_sub(first)) {
-                return Some(first + i);
+        // The words before this one have no column of at least `from`, and those after it no other.
+        let start = from / 64;
+        let (word, later) = self.row(a).get(start as usize..)?.split_first()?;
+        if let Some(i) = next_bit(*word, from % 64) {
+            return Some(start * 64 + i);
+        }
+        for (k, word) in later.iter().enumerate() {
+            if let Some(i) = lowest_bit(*word) {
+                return Some((start + 1 + k as u32) * 64 + i);
             }
         }
         None
