@@ -1,5 +1,5 @@
 -- Where the cells of each chain are after the top cell of one has moved to another.
-use Rattle.std.proofs.Common.{◌≡◌, ℕ, zero, suc, ◌+◌, ◌-◌, ◌<◌, cond, ◌&&◌, eqb, sym, refl, ap, ◌∙◌, inl, inr, arith}
+use Rattle.std.proofs.Common.{◌≡◌, ℕ, zero, suc, ◌+◌, ◌-◌, ◌<◌, cond, ◌&&◌, eqb, sym, refl, ap, ◌∙◌, inl, inr, add-one, arith}
 use Rattle.std.proofs.lemmas.Bool.Decides.{nat_tests}
 use Rattle.std.proofs.lemmas.Bool.{cases_eq}
 use Rattle.cell_lists.specs.Chains.{View, along, place, named, Ranged, Disjoint, Moved}
@@ -21,6 +21,10 @@ along_frame next next' h i (suc j) e d =
 pub along_zero : (next : ℕ → ℕ) (i : ℕ) → along next i 0 ≡ i
 unfolding along
 along_zero next i = refl
+
+pub along_next : (next : ℕ → ℕ) (i j : ℕ) → along next i (j + 1) ≡ next (along next i j)
+unfolding along
+along_next next i j = rw add-one refl
 
 -- ---- where the cell at the place j of the chain x was before a move
 

@@ -14,6 +14,9 @@ handshake g (suc n) same none =
     let turned = sum_same (λ x. bit (g x n)) (λ x. bit (g n x)) n (λ x _. ap bit (same x n)) in
     omega (arith, handshake g n same none, ap bit (none n))
 
+pub edges_same : (f g : Graph) (n : ℕ) → ((x y : ℕ) → f x y ≡ g x y) → edges_below f n ≡ edges_below g n
+edges_same f g n h = sum_same (λ x. count (f x) x) (λ x. count (g x) x) n (λ x _. count_same (f x) (g x) x (λ y _. h x y))
+
 pub edges_none : (g : Graph) (n : ℕ) → ((x y : ℕ) → g x y ≡ false) → edges_below g n ≡ 0
 edges_none g n h = sum_none _ n (λ x _. count_none (g x) x (λ y _. h x y))
 

@@ -8,6 +8,15 @@ pub sum_zero : (f : ℕ → ℕ) → sum f 0 ≡ 0
 unfolding sum
 sum_zero f = refl
 
+pub sum_suc : (f : ℕ → ℕ) (n : ℕ) → sum f (suc n) ≡ sum f n + f n
+unfolding sum
+sum_suc f n = refl
+
+pub sum_le : (f g : ℕ → ℕ) (n : ℕ) → ((x : ℕ) → x < n → f x ≤ g x) → sum f n ≤ sum g n
+unfolding sum
+sum_le f g zero h = omega arith
+sum_le f g (suc n) h = omega (arith, sum_le f g n (λ x k. h x (omega arith)), h n (omega arith))
+
 pub sum_same : (f g : ℕ → ℕ) (n : ℕ) → ((x : ℕ) → x < n → f x ≡ g x) → sum f n ≡ sum g n
 unfolding sum
 sum_same f g zero h = refl

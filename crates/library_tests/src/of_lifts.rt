@@ -67,6 +67,11 @@ fn numbers_of_cases(rt: HostRuntime) {
     assert_eq!(rt; u32::from(State::Released), 1);
     assert_eq!(rt; u32::from(State::Held), 2);
     assert_eq!(rt; u32::from(State::Off), 3);
+    assert_eq!(rt; Refusal::ThresholdOutOfRange.number(), 1);
+    assert_eq!(rt; Refusal::LineNumberOutOfRange.number(), 15);
+    assert_eq!(rt; State::Released.number(), 1);
+    assert_eq!(rt; State::Held.number(), 2);
+    assert_eq!(rt; State::Off.number(), 3);
 }
 
 #[test]

@@ -34,6 +34,14 @@ impl From<Refusal> for u32 {
     }
 }
 
+impl Refusal {
+    pub fn number(self) -> u32
+        ensures { result ≡ refusal_number self }
+    {
+        u32::from(self)
+    }
+}
+
 // Whose call refused: setting up, reading and writing text, the board, or its conflict graph.
 #[derive(Clone, Copy, PartialEq, Eq, Debug)]
 pub enum Layer {

@@ -16,3 +16,11 @@ impl From<State> for u32 {
         state as u32
     }
 }
+
+impl State {
+    pub fn number(self) -> u32
+        ensures { result ≡ state_number self }
+    {
+        u32::from(self)
+    }
+}

@@ -26,6 +26,12 @@ pub trait ChangeKind {
     fn spelling() -> &'static [u8]
         ensures { result.now ≡ spelled };
 
+    fn filled_count() -> usize
+        ensures { result ≡ FILLED }
+    {
+        Self::FILLED
+    }
+
     fn build(a: u32, b: u32, c: u32) -> Self::Arguments
         ensures { result ≡ built a b c };
 
